@@ -1,0 +1,3 @@
+pub mod Encode
+pub mod Open
+pub mod FieldLaws

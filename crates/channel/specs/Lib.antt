@@ -1,0 +1,6 @@
+pub mod Channel
+pub mod Density
+pub mod Constraints
+pub mod Answers
+pub mod Laws
+pub mod EscapeLaws

@@ -1,0 +1,14 @@
+// A channel handed over as two rows of net numbers, and what is answered about it.
+use refusal::Refusal;
+
+// What the check of two rows answers.
+pub enum RowsAnswer {
+    Accepted,
+    Refused(Refusal),
+}
+
+// What is answered to a request for bounds alone.
+pub enum BoundsAnswer {
+    Bounds { density: u32, chain: u32 },
+    Refused(Refusal),
+}

@@ -1,0 +1,1 @@
+// The pieces of a filled channel. See specs/.

@@ -1,0 +1,138 @@
+-- 01, "Bench examples (* proved)": A to J come out of the definitions as the paper prints them, by one computed check.
+use Prim.Native.Nat.{ℕ, zero, suc, _+_}
+use mathlib.Core.Path.{_≡_, refl}
+use mathlib.Core.List.{List, [], _∷_, _++_, map}
+use mathlib.Core.Bool.{Bool, true, false, cond, _&&_}
+use mathlib.Core.Option.{Option, none, some}
+use lib.ListN.{length, take, drop, set}
+use lib.Dec.{eqb}
+use Rattle.lists.specs.Lists.{keep, each, anyOf, allOf, from, headOr, lastOr, greatest, least, at}
+use Rattle.lists.specs.Bytes.{bytes, digitsOf}
+use Rattle.refusal.specs.Refusals.{numberOf, placeOf, Told, refuseIf, refuseAtFirst, _or-else_, answered, filledUnless}
+use Rattle.refusal.specs.Trays.{shortTray, scratchTray}
+use Rattle.grid.specs.declared.Piece.{Piece}
+use Rattle.grid.specs.declared.Piece.the-variants.{Trunk, Branch}
+use Rattle.grid.specs.Pieces.{column, track, row, kindOf, left, right, low, high}
+use Rattle.grid.specs.Words.{lineOf, fromOf, toOf, fieldsRight, makePiece}
+use Rattle.grid.specs.Touching.{meet, covers, touches}
+use Rattle.channel.specs.Channel.{Channel, width, isNet, pinColumns, firstColumn, lastColumn, pinCount, nets, hasSpan, spanning}
+use Rattle.channel.specs.Density.{spansOver, spansOf, density}
+use Rattle.channel.specs.Constraints.{above, drops, depth, chain}
+use Rattle.channel.specs.Answers.{tooWide, uneven, highNet, lonePin, rowsRefusal, boundsAnswer, boundsTold}
+use Rattle.wiring.specs.Pins.{columnOf, rowOf, netOf, pinTouches}
+use Rattle.wiring.specs.Layouts.{Layout}
+use Rattle.pinlist.specs.Reader.{afterNumber, lineStep, topStep, botStep, step, atEnd, readFrom, readText}
+use Rattle.pinlist.specs.Answers.{garbledRefusal, channelOf, textChannel, textRefusal}
+use Rattle.leftedge.specs.Items.{isPlaced, trackOf, fits, clearBelow}
+use Rattle.leftedge.specs.Fill.{scan, orElse, fillFrom, fillItems}
+use Rattle.leftedge.specs.Walk.{firstDrop, fromVisit, walk, ringOf, ringNumbers}
+use Rattle.leftedge.specs.Nets.{starting, fillOrder, netItems, fill, recordOf, records}
+use Rattle.boardfile.specs.Encode.{word, header, fields, pieceWord, encode}
+use Rattle.boardfile.specs.Open.{wordAt, fileWidth, fileTracks, fileCount, fileSpare, wordKind, wordLine, wordFrom, wordTo, wordRight, pieceOf, torn, badField, openRefusal, piecesFrom, fileLayout}
+use Rattle.judge.specs.Elements.{elements, elementsTouch}
+use Rattle.judge.specs.Classes.{marksOf, marksMet, remark, addElement, classesFrom, classes}
+use Rattle.judge.specs.Finding.{marks, pins, firstOfNet, shorts, opens, floating, faultAtFirst, finding}
+use Rattle.judge.specs.Answers.{wrongBoard, judgeRefusal, judged, judgeAnswer, faultNumber, faultPlace, judgeTold}
+use Rattle.blanks.specs.Stock.{stock, smallestFor, noBlank}
+use Rattle.drawing.specs.Draw.{branchIn, drawColumn, drawSpan, drawStraight, drawNet, draw}
+use Rattle.router.specs.Route.{ringShown, tangled, layoutDrawn, recordsMade, routeTrays, routeRefusal, routeAnswer, filledUnder7, ringAfter, routeTold}
+use Rattle.report.specs.Lines.{line, refusedLine, ringLines, refusalLines, boardLine, boundLine, netLine, endLine, goodLine}
+use Rattle.report.specs.Programs.{withinLimit, ofPinList, ofFilled, listing, listingOutput, boardOutput, judgeLines, judgeOutput}
+
+-- two lists of numbers are equal, as a test
+abbrev same : List ℕ → List ℕ → Bool
+same [] [] = true
+same [] (y ∷ ys) = false
+same (x ∷ xs) [] = false
+same (x ∷ xs) (y ∷ ys) = eqb x y && same xs ys
+
+abbrev all : List Bool → Bool
+all [] = true
+all (b ∷ bs) = b && all bs
+
+abbrev textA : List ℕ
+textA = bytes "TOP 0 1 2 3\nBOT 1 2 0 3\n"
+
+abbrev textB : List ℕ
+textB = bytes "TOP 0 1 6 1 2 3 5\nBOT 6 3 5 4 0 2 4\n"
+
+abbrev textC : List ℕ
+textC = bytes "TOP 1 2\nBOT 2 1\n"
+
+abbrev textD : List ℕ
+textD = bytes "TOP 1 2 3 1\nBOT 2 3 2 0\n"
+
+abbrev textE : List ℕ
+textE = bytes "TOP 1 0 1 2 0 2\nBOT 0 3 0 0 3 0\n"
+
+abbrev textF : List ℕ
+textF = bytes "TOP 0\nBOT 0\n"
+
+abbrev textG : List ℕ
+textG = bytes "TOP 5\nBOT 5\n"
+
+-- what the router tells of rows with buffers of the sizes asked: the number, then the values
+abbrev routed : List ℕ → List ℕ
+routed text =
+    let told = routeTold (routeAnswer (routeTrays 1022 10240) (textChannel text)) in
+    told .number ∷ told .values
+
+-- the track of each net
+abbrev tracks : List ℕ → List ℕ
+tracks text = map (λ r. r .track .0) (recordsMade (textChannel text) (fill (textChannel text)))
+
+-- the ring's pairs, as they fill the front of a ring buffer
+abbrev pairs : List ℕ → List ℕ
+pairs text = ringNumbers (ringShown (textChannel text) (fill (textChannel text)))
+
+-- density and chain
+abbrev bound : List ℕ → List ℕ
+bound text = boundsTold (boundsAnswer (textChannel text)) .values
+
+-- the board file of a channel with its pieces changed, judged: the number, then the values
+abbrev judgedWith : List ℕ → (List Piece → List Piece) → List ℕ
+judgedWith text change =
+    let ch = textChannel text in
+    let l = layoutDrawn ch (fill ch) in
+    let told = judgeTold (judgeAnswer ch (encode (width ch) (record { tracks = l .tracks; pieces = change (l .pieces) })) scratchTray) in
+    told .number ∷ told .values
+
+-- the pieces without the one in place i, from 1
+abbrev without : ℕ → List Piece → List Piece
+without zero ps = ps
+without (suc i) ps = take i ps ++ drop (suc i) ps
+
+pub starred :
+    all
+    (same (listingOutput textA) (bytes "BOARD 4 2 8\nBOUND 2 2\nNET 1 1 2 2\nNET 2 2 3 1\nNET 3 4 4 0\nEND 11\n")
+    ∷ same (take 8 (boardOutput textA)) (0x01 ∷ 0x00 ∷ 0x40 ∷ 0x16 ∷ 0x00 ∷ 0x20 ∷ 0x04 ∷ 0x02 ∷ [])
+    ∷ same (judgeOutput textA (boardOutput textA)) (bytes "GOOD 2\n")
+    ∷ same (tracks textB) (5 ∷ 3 ∷ 4 ∷ 1 ∷ 2 ∷ 3 ∷ [])
+    ∷ same (bound textB) (4 ∷ 3 ∷ [])
+    ∷ same (routed textC) (7 ∷ 2 ∷ [])
+    ∷ same (pairs textC) (1 ∷ 1 ∷ 2 ∷ 2 ∷ [])
+    ∷ same (listingOutput textC) (bytes "REFUSED 7 2\nRING 1 1\nRING 2 2\n")
+    ∷ same (routed textD) (7 ∷ 2 ∷ [])
+    ∷ same (pairs textD) (2 ∷ 2 ∷ 3 ∷ 3 ∷ [])
+    ∷ same (tracks textE) (1 ∷ 1 ∷ 2 ∷ [])
+    ∷ same (routed textF) (0 ∷ 0 ∷ 0 ∷ [])
+    ∷ same (routed textG) (0 ∷ 0 ∷ 1 ∷ [])
+    ∷ same (listingOutput textG) (bytes "BOARD 1 0 8\nBOUND 0 0\nNET 5 1 1 0\nEND 1\n")
+    ∷ same (judgedWith textA (without 8)) (12 ∷ 6 ∷ [])
+    ∷ same (judgedWith textA (λ ps. set ps 3 (Branch (column 2) (row 1) (row 3)))) (11 ∷ 3 ∷ [])
+    ∷ same (judgedWith textA (λ ps. ps ++ (Trunk (track 2) (column 3) (column 4) ∷ []))) (13 ∷ 12 ∷ [])
+    ∷ [])
+    ≡ true
+unfolding
+    keep each anyOf allOf from headOr lastOr greatest least at bytes digitsOf numberOf placeOf refuseIf refuseAtFirst _or-else_ answered filledUnless shortTray
+    kindOf left right low high lineOf fromOf toOf fieldsRight makePiece meet covers touches
+    isNet pinColumns firstColumn lastColumn pinCount nets hasSpan spanning spansOver spansOf density above drops depth chain
+    tooWide uneven highNet lonePin rowsRefusal boundsAnswer boundsTold columnOf rowOf netOf pinTouches
+    afterNumber lineStep topStep botStep step atEnd readFrom readText garbledRefusal channelOf textRefusal
+    isPlaced trackOf fits clearBelow scan orElse fillFrom fillItems firstDrop fromVisit walk ringOf ringNumbers starting fillOrder netItems fill recordOf records
+    word header fields pieceWord encode wordAt fileWidth fileTracks fileCount fileSpare wordKind wordLine wordFrom wordTo wordRight pieceOf torn badField openRefusal piecesFrom fileLayout
+    elements elementsTouch marksOf marksMet remark addElement classesFrom classes marks pins firstOfNet shorts opens floating faultAtFirst finding
+    wrongBoard judgeRefusal judged judgeAnswer faultNumber faultPlace judgeTold stock smallestFor noBlank
+    branchIn drawColumn drawSpan drawStraight drawNet draw ringShown tangled layoutDrawn recordsMade routeRefusal routeAnswer filledUnder7 ringAfter routeTold
+    line refusedLine ringLines refusalLines boardLine boundLine netLine endLine goodLine withinLimit ofPinList ofFilled listing listingOutput boardOutput judgeLines judgeOutput
+starred = refl

@@ -1,0 +1,5 @@
+pub mod Pieces
+pub mod Words
+pub mod WordLaws
+pub mod Touching
+pub mod TouchLaws

@@ -1,0 +1,30 @@
+// The grid of a board: its numbers, each with a type of its own so that a column is never taken where a track is due,
+// and the pieces of copper that lie on it.
+pub struct Column(pub u32);
+
+pub struct Track(pub u32);
+
+// Rows are 0 to tracks + 1: BOT pins stand in row 0, TOP pins in the last row, track k is row k.
+pub struct Row(pub u32);
+
+pub struct Net(pub u32);
+
+pub enum Piece {
+    // copper along a track, on the trunk side
+    Trunk {
+        track: Track,
+        first: Column,
+        last: Column,
+    },
+    // copper across, in one column, on the branch side
+    Branch {
+        column: Column,
+        low: Row,
+        high: Row,
+    },
+    // a joint of both sides at one point
+    Contact {
+        column: Column,
+        track: Track,
+    },
+}

@@ -1,0 +1,5 @@
+pub mod Elements
+pub mod Classes
+pub mod Finding
+pub mod Answers
+pub mod Promise

@@ -1,0 +1,5 @@
+pub mod Items
+pub mod Fill
+pub mod Walk
+pub mod Nets
+pub mod Laws

@@ -1,0 +1,5 @@
+pub mod Lists
+pub mod Bytes
+pub mod Tests
+pub mod Members
+pub mod Firsts

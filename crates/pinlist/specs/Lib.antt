@@ -1,0 +1,3 @@
+pub mod Form
+pub mod Reader
+pub mod Answers

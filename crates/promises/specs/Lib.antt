@@ -1,0 +1,2 @@
+pub mod Router
+pub mod Bounds

@@ -1,0 +1,50 @@
+-- Demand 3, and demand 2's reading back, as statements: what is promised of the fill, its refusal as tangled and the drawing,
+-- over every layout with any number of tracks and pieces.
+use Prim.Native.Nat.{ℕ, _≤_}
+use mathlib.Core.Path.{_≡_}
+use mathlib.Core.List.{List}
+use mathlib.Core.Logic.{_↔_}
+use mathlib.Core.Option.{none}
+use lib.ListN.{length}
+use Rattle.channel.specs.Channel.{Channel, width, nets}
+use Rattle.channel.specs.Density.{density}
+use Rattle.channel.specs.Constraints.{chain, Ring, Tangled, Unconstrained}
+use Rattle.channel.specs.Answers.{Escapes}
+use Rattle.wiring.specs.Layouts.{Layout, Good, OneTrunkEach}
+use Rattle.leftedge.specs.Items.{Place}
+use Rattle.leftedge.specs.Fill.{Filling, filled, stuck}
+use Rattle.leftedge.specs.Walk.{ringOf}
+use Rattle.leftedge.specs.Nets.{netItems, fill}
+use Rattle.boardfile.specs.Encode.{encode}
+use Rattle.boardfile.specs.Open.{openRefusal, fileWidth, fileLayout}
+use Rattle.drawing.specs.Draw.{draw}
+
+-- the fill ends with a track that stays empty: "refused as tangled"
+abbrev pub Refused : Channel → Type 0
+Refused ch = (left : List ℕ) × (fill ch ≡ stuck left)
+
+-- "no good layout of it with at most one trunk piece per net exists, whatever the number of tracks and pieces"
+abbrev pub NoLayout : Channel → Type 0
+NoLayout ch = (l : Layout) → Good ch l → OneTrunkEach ch l → ⊥
+
+-- "every other good layout of that channel, split trunks included, has at least as many" tracks
+abbrev pub Fewest : Channel → ℕ → Type 0
+Fewest ch t = (l : Layout) → Good ch l → t ≤ l .tracks
+
+-- reading a board file gives back this layout of w columns
+pub record ReadsBack (w : ℕ) (l : Layout) (file : List ℕ) : Type 0 where
+  pub opens : openRefusal file ≡ none
+  pub sameWidth : fileWidth file ≡ w
+  pub sameLayout : fileLayout file ≡ l
+
+pub record RouterPromise (ch : Channel) : Type 0 where
+  pub refused-exactly : Refused ch ↔ NoLayout ch
+  pub ring-exactly : Refused ch ↔ Tangled ch
+  pub ring-shown : (left : List ℕ) → fill ch ≡ stuck left → Ring ch (ringOf (netItems ch) left)
+  pub laid-out : (t : ℕ) (ps : List Place) → fill ch ≡ filled t ps → Good ch (draw ch t ps) × OneTrunkEach ch (draw ch t ps)
+  pub fewest : Unconstrained ch → (t : ℕ) (ps : List Place) → fill ch ≡ filled t ps → (t ≡ density ch) × Fewest ch t
+  pub floors : (t : ℕ) (ps : List Place) → fill ch ≡ filled t ps → (density ch ≤ t) × (chain ch ≤ t) × (t ≤ length (nets ch))
+  pub read-back : (t : ℕ) (ps : List Place) → fill ch ≡ filled t ps → ReadsBack (width ch) (draw ch t ps) (encode (width ch) (draw ch t ps))
+
+abbrev pub Demand3 : Type 0
+Demand3 = (ch : Channel) → Escapes ch → RouterPromise ch

@@ -1,0 +1,26 @@
+// The refusals that an operation may answer, by the shop's words, each with its place.
+// The judge's faults, numbers 11 to 13, are an enum of their own beside the judge.
+pub enum Refusal {
+    // 1: a lent buffer is too short; the length needed
+    ShortTray(usize),
+    // 2: the text is not a pin list; the length of the longest start that some pin list shares
+    Garbled(usize),
+    // 3: a row has over 512 columns; 513
+    TooWide(usize),
+    // 4: the rows differ in length or are empty; the shorter length plus 1
+    Uneven(usize),
+    // 5: a net number over 511; the lowest pin position that holds one
+    HighNet(usize),
+    // 6: a net with just one pin; the lowest such net
+    LonePin(usize),
+    // 7: the vertical constraint graph has a cycle; the number of pairs in the ring shown
+    Tangled(usize),
+    // 8: the board file has a wrong length; the length due
+    Torn(usize),
+    // 9: a field of the board file is out of range; 0 for the header, else the number of the piece
+    BadField(usize),
+    // 10: the board file's width is not that of the rows; the file's width
+    WrongBoard(usize),
+    // 14: no stock blank has so many tracks; the tracks
+    NoBlank(usize),
+}

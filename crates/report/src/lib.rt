@@ -1,0 +1,1 @@
+// What the three programs write. See specs/.
