@@ -1,3 +1,4 @@
 pub mod Encode
 pub mod Open
 pub mod FieldLaws
+pub mod Promise

@@ -58,15 +58,15 @@ pub record Step : Type 0 where
 abbrev pub netsOf : List Step → List ℕ
 netsOf steps = map (λ s. s .net) steps
 
--- each net of the steps is above the next, and the last above `end`
-pub data Descends (ch : Channel) (end : ℕ) : List Step → Type 0 where
-  last : {s : Step} → Above ch (s .net) end (s .column) → Descends ch end (s ∷ [])
-  next : {s t : Step} {rest : List Step} → Above ch (s .net) (t .net) (s .column) → Descends ch end (t ∷ rest) → Descends ch end (s ∷ (t ∷ rest))
+-- each net of the steps stands over the next in its column, and the last over `end`; `Over` is the relation, such as `Above ch`
+pub data Descends (Over : ℕ → ℕ → ℕ → Type 0) (end : ℕ) : List Step → Type 0 where
+  last : {s : Step} → Over (s .net) end (s .column) → Descends Over end (s ∷ [])
+  next : {s t : Step} {rest : List Step} → Over (s .net) (t .net) (s .column) → Descends Over end (t ∷ rest) → Descends Over end (s ∷ (t ∷ rest))
 
 -- "A ring is a list of different nets, each above the next, and the last above the first"
 pub record Ring (ch : Channel) (steps : List Step) : Type 0 where
   pub distinct : Distinct (netsOf steps)
-  pub closed : Descends ch (headOr 0 (netsOf steps)) steps
+  pub closed : Descends (Above ch) (headOr 0 (netsOf steps)) steps
 
 -- "a channel is tangled when it has one"
 abbrev pub Tangled : Channel → Type 0

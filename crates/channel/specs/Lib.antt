@@ -4,3 +4,4 @@ pub mod Constraints
 pub mod Answers
 pub mod Laws
 pub mod EscapeLaws
+pub mod Promise

@@ -2,4 +2,5 @@ pub mod Items
 pub mod Fill
 pub mod Walk
 pub mod Nets
+pub mod Invariants
 pub mod Laws

@@ -3,3 +3,4 @@ pub mod Bytes
 pub mod Tests
 pub mod Members
 pub mod Firsts
+pub mod Pigeonhole

@@ -1,3 +1,4 @@
 pub mod Form
 pub mod Reader
 pub mod Answers
+pub mod Promise

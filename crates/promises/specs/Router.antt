@@ -4,7 +4,6 @@ use Prim.Native.Nat.{ℕ, _≤_}
 use mathlib.Core.Path.{_≡_}
 use mathlib.Core.List.{List}
 use mathlib.Core.Logic.{_↔_}
-use mathlib.Core.Option.{none}
 use lib.ListN.{length}
 use Rattle.channel.specs.Channel.{Channel, width, nets}
 use Rattle.channel.specs.Density.{density}
@@ -16,7 +15,7 @@ use Rattle.leftedge.specs.Fill.{Filling, filled, stuck}
 use Rattle.leftedge.specs.Walk.{ringOf}
 use Rattle.leftedge.specs.Nets.{netItems, fill}
 use Rattle.boardfile.specs.Encode.{encode}
-use Rattle.boardfile.specs.Open.{openRefusal, fileWidth, fileLayout}
+use Rattle.boardfile.specs.Promise.{ReadsBack}
 use Rattle.drawing.specs.Draw.{draw}
 
 -- the fill ends with a track that stays empty: "refused as tangled"
@@ -30,12 +29,6 @@ NoLayout ch = (l : Layout) → Good ch l → OneTrunkEach ch l → ⊥
 -- "every other good layout of that channel, split trunks included, has at least as many" tracks
 abbrev pub Fewest : Channel → ℕ → Type 0
 Fewest ch t = (l : Layout) → Good ch l → t ≤ l .tracks
-
--- reading a board file gives back this layout of w columns
-pub record ReadsBack (w : ℕ) (l : Layout) (file : List ℕ) : Type 0 where
-  pub opens : openRefusal file ≡ none
-  pub sameWidth : fileWidth file ≡ w
-  pub sameLayout : fileLayout file ≡ l
 
 pub record RouterPromise (ch : Channel) : Type 0 where
   pub refused-exactly : Refused ch ↔ NoLayout ch
