@@ -5,3 +5,4 @@ pub mod Answers
 pub mod Laws
 pub mod EscapeLaws
 pub mod Promise
+pub mod SpanLaws

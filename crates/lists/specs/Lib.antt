@@ -4,3 +4,4 @@ pub mod Tests
 pub mod Members
 pub mod Firsts
 pub mod Pigeonhole
+pub mod Ends
