@@ -1,4 +1,7 @@
 pub mod Encode
 pub mod Open
 pub mod FieldLaws
+pub mod Reading
+pub mod BitLaws
 pub mod Promise
+pub mod RoundTrip

@@ -6,3 +6,5 @@ pub mod Laws
 pub mod EscapeLaws
 pub mod Promise
 pub mod SpanLaws
+pub mod PathLaws
+pub mod ChainLaws

@@ -2,14 +2,14 @@
 use Prim.Native.Nat.{ℕ, zero, suc, _+_, _≤_, _<_}
 use native.Mathlib.Omega.{arith}
 use mathlib.Core.Path.{_≡_, refl, sym, _∙_, ap, subst}
-use mathlib.Core.List.{List, [], _∷_, List·Memᴰ, List·Memᴰ·head, List·Memᴰ·tail, List·Memᴰ·cases-cons, List·Memᴰ·not-nil, Memᴰ·cast}
+use mathlib.Core.List.{List, [], _∷_, List·Memᴰ, List·Memᴰ·head, List·Memᴰ·tail, List·Memᴰ·cases-cons, List·Memᴰ·not-nil}
 use mathlib.Core.Logic.{_⊎_, inl, inr, ⊎-elim}
-use mathlib.Core.Bool.{Bool, true, false, cond}
+use mathlib.Core.Bool.{Bool, true, false, cond, _&&_}
 use lib.ListN.{length, getD}
-use lib.Dec.{T, eqb, eqb→eq, eqb-refl}
-use Rattle.lists.specs.Lists.{keep, from, headOr, lastOr, at}
-use Rattle.lists.specs.Tests.{T→true, true→T, fails→false, equal?}
-use Rattle.lists.specs.Members.{keep-member, kept, from-member, in-from}
+use lib.Dec.{T, ltb, eqb, ltb→lt, eqb→eq, eqb-refl}
+use Rattle.lists.specs.Lists.{keep, allOf, from, headOr, lastOr, at}
+use Rattle.lists.specs.Tests.{T→true, fails→false, and-left, and-right, equal?}
+use Rattle.lists.specs.Members.{keep-member, from-member, all→member}
 
 module _ {A : Type 0} where
   pub head-member : (d : A) {xs : List A} {x : A} → List·Memᴰ x xs → List·Memᴰ (headOr d xs) xs
@@ -110,3 +110,13 @@ elsewhere n (x ∷ xs) (suc i) h e c = ⊎-elim here (λ q. there (elsewhere n x
         let below = r .inRow in
         let apart = r .other in
         record { place = suc (r .place); inRow = omega arith; other = omega arith; same = r .same }
+
+-- `Rising`, as a test
+unfoldable pub rises : List ℕ → Bool
+rises [] = true
+rises (x ∷ xs) = allOf (ltb x) xs && rises xs
+
+pub rises→ : (xs : List ℕ) → T (rises xs) → Rising xs
+unfolding Rising rises
+rises→ [] t = tt
+rises→ (x ∷ xs) t = (λ y m. ltb→lt x y (all→member (ltb x) (and-left (allOf (ltb x) xs) (rises xs) t) m), rises→ xs (and-right (allOf (ltb x) xs) (rises xs) t))

@@ -5,3 +5,5 @@ pub mod Members
 pub mod Firsts
 pub mod Pigeonhole
 pub mod Ends
+pub mod Ranges
+pub mod Greatest

@@ -1,0 +1,27 @@
+-- The greatest of what a function gives for the members of a list: none gives more, and if it is not 0 then one of them gives it.
+use Prim.Native.Nat.{ℕ, max, _≤_, _<_}
+use native.Mathlib.Omega.{arith}
+use native.Mathlib.Decide.{decLe}
+use mathlib.Core.Path.{_≡_, refl, subst}
+use mathlib.Core.List.{List, [], _∷_, map, List·Memᴰ, List·Memᴰ·head, List·Memᴰ·tail}
+use Rattle.lists.specs.Lists.{greatest}
+
+module _ {A : Type 0} (f : A → ℕ) where
+  pub greatest-map-upper : {xs : List A} {x : A} → List·Memᴰ x xs → f x ≤ greatest (map f xs)
+  unfolding greatest
+  greatest-map-upper {xs = y ∷ ys} {x = x} (List·Memᴰ·head e) = subst (λ (z : A). f x ≤ max (f z) (greatest (map f ys))) e (omega arith)
+  greatest-map-upper {xs = y ∷ ys} (List·Memᴰ·tail m) = let h = greatest-map-upper m in omega arith
+
+  pub greatest-map-least : (xs : List A) (k : ℕ) → ((x : A) → List·Memᴰ x xs → f x ≤ k) → greatest (map f xs) ≤ k
+  unfolding greatest
+  greatest-map-least [] k h = omega arith
+  greatest-map-least (y ∷ ys) k h =
+      let here = h y (List·Memᴰ·head refl) in
+      let rest = greatest-map-least ys k (λ x m. h x (List·Memᴰ·tail m)) in
+      omega arith
+
+  pub greatest-map-reached : (xs : List A) → 0 < greatest (map f xs) → (x : A) × List·Memᴰ x xs × (f x ≡ greatest (map f xs))
+  unfolding greatest
+  greatest-map-reached [] h = absurd (omega arith)
+  greatest-map-reached (y ∷ ys) h =
+      elim (decLe (greatest (map f ys)) (f y)) [ yes l ↦ (y, List·Memᴰ·head refl, omega arith) | no l ↦ (let r = greatest-map-reached ys (omega arith) in let e = r .2 in (r .0, List·Memᴰ·tail (r .1), omega arith)) ]
