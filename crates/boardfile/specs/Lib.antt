@@ -1,5 +1,6 @@
 pub mod Encode
 pub mod Open
+pub mod Code
 pub mod FieldLaws
 pub mod Reading
 pub mod BitLaws

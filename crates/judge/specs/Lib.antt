@@ -1,5 +1,12 @@
 pub mod Elements
 pub mod Classes
 pub mod Finding
+pub mod TouchTest
+pub mod ClassLaws
+pub mod PinPlaces
+pub mod MarkLaws
+pub mod FindingLaws
 pub mod Answers
 pub mod Promise
+pub mod FaultLaws
+pub mod Demand2

@@ -3,4 +3,8 @@ pub mod Fill
 pub mod Walk
 pub mod Nets
 pub mod Invariants
+pub mod TrackLaws
+pub mod ScanLaws
+pub mod FillLaws
+pub mod WalkLaws
 pub mod Laws

@@ -7,3 +7,6 @@ pub mod Pigeonhole
 pub mod Ends
 pub mod Ranges
 pub mod Greatest
+pub mod Digits
+pub mod Orders
+pub mod Places
