@@ -8,3 +8,4 @@ pub mod Promise
 pub mod SpanLaws
 pub mod PathLaws
 pub mod ChainLaws
+pub mod DensityLaws

@@ -10,3 +10,4 @@ pub mod Answers
 pub mod Promise
 pub mod FaultLaws
 pub mod Demand2
+pub mod OnBytes

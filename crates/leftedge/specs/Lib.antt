@@ -7,4 +7,4 @@ pub mod TrackLaws
 pub mod ScanLaws
 pub mod FillLaws
 pub mod WalkLaws
-pub mod Laws
+pub mod NetLaws

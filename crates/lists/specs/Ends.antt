@@ -7,7 +7,8 @@ use mathlib.Core.Logic.{_⊎_, inl, inr, ⊎-elim}
 use mathlib.Core.Bool.{Bool, true, false, cond, _&&_}
 use lib.ListN.{length, getD}
 use lib.Dec.{T, ltb, eqb, ltb→lt, eqb→eq, eqb-refl}
-use Rattle.lists.specs.Lists.{keep, allOf, from, headOr, lastOr, at}
+use Rattle.lists.specs.Lists.{keep, allOf, from, headOr, lastOr, at, Distinct}
+use Rattle.lists.specs.Pigeonhole.{distinct-cons}
 use Rattle.lists.specs.Tests.{T→true, fails→false, and-left, and-right, equal?}
 use Rattle.lists.specs.Members.{keep-member, from-member, all→member}
 
@@ -120,3 +121,10 @@ pub rises→ : (xs : List ℕ) → T (rises xs) → Rising xs
 unfolding Rising rises
 rises→ [] t = tt
 rises→ (x ∷ xs) t = (λ y m. ltb→lt x y (all→member (ltb x) (and-left (allOf (ltb x) xs) (rises xs) t) m), rises→ xs (and-right (allOf (ltb x) xs) (rises xs) t))
+
+-- a rising list repeats nothing
+pub rising-distinct : (xs : List ℕ) → Rising xs → Distinct xs
+unfolding Rising Distinct
+rising-distinct [] r = tt
+rising-distinct (x ∷ xs) r = distinct-cons x xs (λ m. let h = r .0 x m in omega arith) (rising-distinct xs (r .1))
+

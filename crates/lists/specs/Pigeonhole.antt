@@ -2,7 +2,7 @@
 use Prim.Native.Nat.{ℕ, zero, suc, _+_, _≤_, _<_}
 use native.Mathlib.Omega.{arith}
 use mathlib.Core.Path.{_≡_, refl, sym, ap, subst}
-use mathlib.Core.List.{List, [], _∷_, _++_, List·Memᴰ, List·Memᴰ·head, List·Memᴰ·tail, List·Memᴰ·cases-cons, List·Memᴰ·append-cases}
+use mathlib.Core.List.{List, [], _∷_, _++_, List·Memᴰ, List·Memᴰ·head, List·Memᴰ·tail, List·Memᴰ·cases-cons, List·Memᴰ·not-nil, List·Memᴰ·append-cases, Memᴰ·cast}
 use mathlib.Core.Logic.{_⊎_, inl, inr, ⊎-elim}
 use mathlib.Core.Bool.{Bool, true, false, cond, not}
 use lib.ListN.{length}
@@ -56,3 +56,31 @@ pigeonhole (x ∷ xs) ys d h =
     let rest = pigeonhole xs (keep others ys) (distinct-tail x xs d) (λ z m. kept others (h z (List·Memᴰ·tail m)) (not-passes (eqb x z) (λ t. distinct-head x xs d (subst (λ (k : ℕ). List·Memᴰ k xs) (sym (eqb→eq x z t)) m)))) in
     let fewer = length-keep-less others (h x (List·Memᴰ·head refl)) (ap not (T→true (eqb x x) (eqb-refl x))) in
     omega arith
+
+-- R gives each of the numbers a number of ys, and gives none to two of them
+pub record Assigned (R : ℕ → ℕ → Type 0) (ns ys : List ℕ) : Type 0 where
+  pub gives : (n : ℕ) → List·Memᴰ n ns → (y : ℕ) × R n y × List·Memᴰ y ys
+  pub apart : (m n y : ℕ) → R m y → R n y → m ≡ n
+
+-- the numbers that R gives to the numbers of ms
+record Picked (R : ℕ → ℕ → Type 0) (ms ys : List ℕ) : Type 0 where
+  picks : List ℕ
+  counted : length picks ≡ length ms
+  different : Distinct picks
+  inside : (y : ℕ) → List·Memᴰ y picks → List·Memᴰ y ys
+  owned : (y : ℕ) → List·Memᴰ y picks → (m : ℕ) × List·Memᴰ m ms × R m y
+
+module _ (R : ℕ → ℕ → Type 0) (ns ys : List ℕ) (a : Assigned R ns ys) where
+  picked : (ms : List ℕ) → Distinct ms → ((n : ℕ) → List·Memᴰ n ms → List·Memᴰ n ns) → Picked R ms ys
+  unfolding Distinct
+  picked [] d h = record { picks = []; counted = refl; different = tt; inside = λ y m. absurd (List·Memᴰ·not-nil m); owned = λ y m. absurd (List·Memᴰ·not-nil m) }
+  picked (m ∷ ms) d h = one-more (picked ms (distinct-tail m ms d) (λ n k. h n (List·Memᴰ·tail k))) (a .gives m (h m (List·Memᴰ·head refl)))
+    where
+      one-more : Picked R ms ys → (y : ℕ) × R m y × List·Memᴰ y ys → Picked R (m ∷ ms) ys
+      one-more r g =
+          let y = g .0 in
+          record { picks = y ∷ r .picks; counted = ap suc (r .counted); different = distinct-cons y (r .picks) (λ k. let o = r .owned y k in distinct-head m ms d (Memᴰ·cast (a .apart m (o .0) y (g .1) (o .2)) (o .1))) (r .different); inside = λ z k. ⊎-elim (λ e. Memᴰ·cast e (g .2)) (r .inside z) (List·Memᴰ·cases-cons k); owned = λ z k. ⊎-elim (λ e. (m, List·Memᴰ·head refl, subst (λ (w : ℕ). R m w) (sym e) (g .1))) (λ t. let o = r .owned z t in (o .0, List·Memᴰ·tail (o .1), o .2)) (List·Memᴰ·cases-cons k) }
+
+  -- so the numbers are no more than the members of ys
+  pub injection : Distinct ns → length ns ≤ length ys
+  injection d = let r = picked ns d (λ n m. m) in let e = r .counted in let p = pigeonhole (r .picks) ys (r .different) (r .inside) in omega arith

@@ -2,8 +2,8 @@
 use Prim.Native.Nat.{ℕ, zero, suc, _*_, _<_}
 use native.Mathlib.Omega.{arith}
 use mathlib.Core.Path.{_≡_, refl, sym, ap, subst}
-use mathlib.Core.List.{List, [], _∷_, List·Memᴰ, List·Memᴰ·head, List·Memᴰ·tail, List·Memᴰ·not-nil}
-use mathlib.Core.Bool.{Bool}
+use mathlib.Core.List.{List, [], _∷_, map, List·Memᴰ, List·Memᴰ·head, List·Memᴰ·tail, List·Memᴰ·not-nil}
+use mathlib.Core.Bool.{Bool, true, false, cond}
 use mathlib.Core.Option.{Option, some, Option·none-ne-some, Option·some-injective}
 use lib.ListN.{length, length-append, getElem?}
 use lib.Dec.{T}
@@ -40,3 +40,13 @@ module _ {A : Type 0} where
   unfolding each
   length-each n f [] h = omega arith
   length-each n f (x ∷ xs) h = let r = length-each n f xs h in let e = h x in omega (arith, length-append (f x) (each f xs))
+
+  -- keeping after `map` is keeping before it
+  pub length-keep-map : {B : Type 0} (f : B → Bool) (g : A → B) (xs : List A) → length (keep f (map g xs)) ≡ length (keep (λ x. f (g x)) xs)
+  unfolding keep
+  length-keep-map f g [] = refl
+  length-keep-map f g (x ∷ xs) = go (f (g x)) (length-keep-map f g xs)
+    where
+      go : (b : Bool) → length (keep f (map g xs)) ≡ length (keep (λ y. f (g y)) xs) → length (cond b (g x ∷ keep f (map g xs)) (keep f (map g xs))) ≡ length (cond b (x ∷ keep (λ y. f (g y)) xs) (keep (λ y. f (g y)) xs))
+      go true e = ap suc e
+      go false e = e

@@ -1,3 +1,4 @@
 pub mod Refusals
 pub mod Trays
 pub mod ChainLaws
+pub mod TrayLaws
