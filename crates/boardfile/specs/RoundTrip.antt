@@ -77,7 +77,7 @@ pieces-back bs i (p ∷ ps) h =
     ap₂ {C = List Piece} (λ q qs. q ∷ qs) (ap (λ (j : ℕ). pieceOf (wordAt bs j)) (omega arith) ∙ h zero p refl)
     (pieces-back bs (i + 4) ps (λ k q e. ap (λ (j : ℕ). pieceOf (wordAt bs j)) (omega arith) ∙ h (suc k) q e))
 
-encoded-length : (w : ℕ) (l : Layout) → length (encode w l) ≡ 4 + 4 * length (l .pieces)
+pub encoded-length : (w : ℕ) (l : Layout) → length (encode w l) ≡ 4 + 4 * length (l .pieces)
 unfolding encode
 encoded-length w l =
     let v = header w (l .tracks) (length (l .pieces)) in

@@ -1,1 +1,7 @@
 pub mod Draw
+pub mod Owner
+pub mod Points
+pub mod OwnerLaws
+pub mod Reached
+pub mod GoodLaws
+pub mod CountLaws

@@ -82,8 +82,9 @@ module _ (ch : Channel) (board : List ℕ) (scratch : ℕ) where
   →clean e₁ e₂ = rw (e₁, answered, e₂, judged)
 
 pub demand2-on-bytes : Demand2OnBytes
-demand2-on-bytes ch board scratch =
-    (λ h. let c = clean→ ch board scratch h in let u = unrefused→ ch board scratch (c .0) in
-    record { room = u .room; escapes = u .escapes; opens = u .opens; sameWidth = u .sameWidth; good = demand2 ch (fileLayout board) (u .escapes) (on-grid ch board scratch u) .passes .0 (c .1) },
-    λ p. let u : Unrefused ch board scratch = record { room = p .room; escapes = p .escapes; opens = p .opens; sameWidth = p .sameWidth } in
-    →clean ch board scratch (→unrefused ch board scratch u) (demand2 ch (fileLayout board) (p .escapes) (on-grid ch board scratch u) .passes .1 (p .good)))
+demand2-on-bytes ch board scratch = (
+  λ h. let c = clean→ ch board scratch h in let u = unrefused→ ch board scratch (c .0) in
+      record { room = u .room; escapes = u .escapes; opens = u .opens; sameWidth = u .sameWidth; good = demand2 ch (fileLayout board) (u .escapes) (on-grid ch board scratch u) .passes .0 (c .1) },
+  λ p. let u : Unrefused ch board scratch = record { room = p .room; escapes = p .escapes; opens = p .opens; sameWidth = p .sameWidth } in
+      →clean ch board scratch (→unrefused ch board scratch u) (demand2 ch (fileLayout board) (p .escapes) (on-grid ch board scratch u) .passes .1 (p .good)),
+)

@@ -8,3 +8,4 @@ pub mod ScanLaws
 pub mod FillLaws
 pub mod WalkLaws
 pub mod NetLaws
+pub mod NetFill

@@ -127,4 +127,3 @@ pub rising-distinct : (xs : List ℕ) → Rising xs → Distinct xs
 unfolding Rising Distinct
 rising-distinct [] r = tt
 rising-distinct (x ∷ xs) r = distinct-cons x xs (λ m. let h = r .0 x m in omega arith) (rising-distinct xs (r .1))
-

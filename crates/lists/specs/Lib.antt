@@ -10,3 +10,4 @@ pub mod Greatest
 pub mod Digits
 pub mod Orders
 pub mod Places
+pub mod Eaches

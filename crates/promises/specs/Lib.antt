@@ -1,2 +1,3 @@
 pub mod Router
 pub mod Bounds
+pub mod Proved

@@ -5,6 +5,7 @@ use mathlib.Core.Path.{_≡_}
 use mathlib.Core.List.{List}
 use mathlib.Core.Logic.{_↔_}
 use lib.ListN.{length}
+use Rattle.refusal.specs.Trays.{recordTray, ringTray, boardTray}
 use Rattle.channel.specs.Channel.{Channel, width, nets}
 use Rattle.channel.specs.Density.{density}
 use Rattle.channel.specs.Constraints.{chain, Ring, Tangled, Unconstrained}
@@ -12,8 +13,8 @@ use Rattle.channel.specs.Answers.{Escapes}
 use Rattle.wiring.specs.Layouts.{Layout, Good, OneTrunkEach}
 use Rattle.leftedge.specs.Items.{Place}
 use Rattle.leftedge.specs.Fill.{Filling, filled, stuck}
-use Rattle.leftedge.specs.Walk.{ringOf}
-use Rattle.leftedge.specs.Nets.{netItems, fill}
+use Rattle.leftedge.specs.Walk.{ringOf, ringNumbers}
+use Rattle.leftedge.specs.Nets.{netItems, fill, records}
 use Rattle.boardfile.specs.Encode.{encode}
 use Rattle.boardfile.specs.Promise.{ReadsBack}
 use Rattle.drawing.specs.Draw.{draw}
@@ -41,3 +42,11 @@ pub record RouterPromise (ch : Channel) : Type 0 where
 
 abbrev pub Demand3 : Type 0
 Demand3 = (ch : Channel) → Escapes ch → RouterPromise ch
+
+-- what is stored fits the lengths that refusal 1 asks for
+pub record TraysFit (ch : Channel) : Type 0 where
+  pub records-fit : (ps : List Place) → length (records ch ps) ≤ recordTray
+  pub ring-fits : (left : List ℕ) → fill ch ≡ stuck left → length (ringNumbers (ringOf (netItems ch) left)) ≤ ringTray
+  pub tracks-fit : (t : ℕ) (ps : List Place) → fill ch ≡ filled t ps → t ≤ 511
+  pub pieces-fit : (t : ℕ) (ps : List Place) → fill ch ≡ filled t ps → length (draw ch t ps .pieces) ≤ 2559
+  pub board-fits : (t : ℕ) (ps : List Place) → fill ch ≡ filled t ps → length (encode (width ch) (draw ch t ps)) ≤ boardTray
