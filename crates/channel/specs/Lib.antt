@@ -2,6 +2,7 @@ pub mod Channel
 pub mod Density
 pub mod Constraints
 pub mod Answers
+pub mod Spans
 pub mod Rows
 pub mod Laws
 pub mod EscapeLaws

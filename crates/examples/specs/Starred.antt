@@ -16,6 +16,7 @@ use Rattle.grid.specs.Pieces.{column, track, row, kindOf, left, right, low, hig
 use Rattle.grid.specs.Words.{lineOf, fromOf, toOf, fieldsRight, makePiece}
 use Rattle.grid.specs.Touching.{meet, covers, touches}
 use Rattle.channel.specs.Channel.{Channel, width, isNet, pinColumns, firstColumn, lastColumn, pinCount, nets, hasSpan, spanning}
+use Rattle.channel.specs.Spans.{starting}
 use Rattle.channel.specs.Density.{spansOver, spansOf, density}
 use Rattle.channel.specs.Constraints.{above, drops, depth, chain}
 use Rattle.channel.specs.Answers.{tooWide, uneven, highNet, lonePin, rowsRefusal, boundsAnswer, boundsTold}
@@ -26,7 +27,7 @@ use Rattle.pinlist.specs.Answers.{garbledRefusal, channelOf, textChannel, textR
 use Rattle.leftedge.specs.Items.{isPlaced, trackOf, fits, clearBelow}
 use Rattle.leftedge.specs.Fill.{scan, orElse, fillFrom, fillItems}
 use Rattle.leftedge.specs.Walk.{firstDrop, fromVisit, walk, ringOf, ringNumbers}
-use Rattle.leftedge.specs.Nets.{starting, fillOrder, netItems, fill, recordOf, records}
+use Rattle.leftedge.specs.Nets.{fillOrder, netItems, fill, recordOf, records}
 use Rattle.boardfile.specs.Encode.{word, header, fields, pieceWord, encode}
 use Rattle.boardfile.specs.Open.{wordAt, fileWidth, fileTracks, fileCount, fileSpare, wordKind, wordLine, wordFrom, wordTo, wordRight, pieceOf, torn, badField, openRefusal, piecesFrom, fileLayout}
 use Rattle.judge.specs.Elements.{elements, elementsTouch}

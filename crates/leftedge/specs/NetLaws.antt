@@ -16,8 +16,9 @@ use Rattle.channel.specs.Constraints.{Drop, Above}
 use Rattle.channel.specs.Answers.{Escapes}
 use Rattle.channel.specs.Laws.{drop→above, above→drop, PinIn, counted→pin, pin-in-first, pin-after-first, pin-before-last}
 use Rattle.channel.specs.SpanLaws.{spanning→, spanning-rising, lower-spans, upper-pin, lower-pin}
+use Rattle.channel.specs.Spans.{starting}
 use Rattle.leftedge.specs.Items.{Items}
-use Rattle.leftedge.specs.Nets.{starting, fillOrder, netItems}
+use Rattle.leftedge.specs.Nets.{fillOrder, netItems}
 use Rattle.leftedge.specs.Invariants.{Falls, Before, Orderly}
 
 pub starting→ : (ch : Channel) (c n : ℕ) → List·Memᴰ n (starting ch c) → List·Memᴰ n (spanning ch) × (firstColumn ch n ≡ c)

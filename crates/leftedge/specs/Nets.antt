@@ -1,18 +1,15 @@
 -- 01, "Filling tracks" and "Spans and constraints": the nets of a channel as the items of the fill, and the table of net records.
 use Prim.Native.Nat.{ℕ}
 use mathlib.Core.List.{List, map}
-use lib.Dec.{ltb, eqb}
-use Rattle.lists.specs.Lists.{keep, each, upTo}
+use lib.Dec.{ltb}
+use Rattle.lists.specs.Lists.{each, upTo}
 use Rattle.grid.specs.Pieces.{column, track, net}
-use Rattle.channel.specs.Channel.{Channel, width, nets, spanning, firstColumn, lastColumn}
+use Rattle.channel.specs.Channel.{Channel, width, nets, firstColumn, lastColumn}
+use Rattle.channel.specs.Spans.{starting}
 use Rattle.channel.specs.Constraints.{drops}
 use Rattle.leftedge.specs.declared.NetRecord.{NetRecord}
 use Rattle.leftedge.specs.Items.{Items, Place, trackOf}
 use Rattle.leftedge.specs.Fill.{Filling, fillItems}
-
--- the nets with spans that start in column c, lower number first
-unfoldable pub starting : Channel → ℕ → List ℕ
-starting ch c = keep (λ n. eqb (firstColumn ch n) c) (spanning ch)
 
 -- "Nets with spans are sorted by first column, then number"
 unfoldable pub fillOrder : Channel → List ℕ
