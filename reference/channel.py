@@ -1,0 +1,324 @@
+"""The adapter board channel, written from the scope paper alone, by other means than the proved code where that is natural.
+
+Nets are kept in dictionaries and sets, the form of a text is a regular expression, the chain is a memoised search, and the judge floods
+grid points layer by layer. Every function answers the paper's numbers: a refusal is `Refused(number, place)`, raised or returned.
+"""
+import re
+
+ROW, RECORDS, RING, BOARD, SCRATCH = 512, 511, 1022, 10240, 10238
+HIGHEST_NET, WIDEST, LIMIT = 511, 512, 65536
+STOCK = (8, 12, 16, 24, 32, 48, 64, 96, 128, 192, 256, 512)
+
+
+class Refused(Exception):
+    """A refusal or fault: its number and place, and the ring's pairs under 7."""
+
+    def __init__(self, number, place, ring=()):
+        super().__init__(f"refused {number} {place}")
+        self.number, self.place, self.ring = number, place, tuple(ring)
+
+
+# --- pin lists ---------------------------------------------------------------------------------------------------------------
+
+FORM = re.compile(rb"TOP((?: (?:0|[1-9][0-9]*))+)\nBOT((?: (?:0|[1-9][0-9]*))+)\n")
+
+
+def starts_a_form(text):
+    """Whether some text of the form begins with these bytes: a completion is tried for each kind of end."""
+    completions = (b"", b"0", b" 0", b" 0\nBOT 0\n", b"0\nBOT 0\n", b"\nBOT 0\n", b"BOT 0\n", b"OT 0\n", b"T 0\n", b"OP 0\nBOT 0\n",
+                   b"P 0\nBOT 0\n", b"TOP 0\nBOT 0\n", b" 0\n", b"0\n", b"\n")
+    return any(FORM.fullmatch(text + c) for c in completions)
+
+
+def parse(text):
+    """The two rows of a text, or refusal 2."""
+    match = FORM.fullmatch(text)
+    if match:
+        return [[int(n) for n in part.split()] for part in match.groups()]
+    low, high = 0, len(text)  # sharing a start with a text of the form is lost once and for all
+    while low < high:
+        middle = (low + high + 1) // 2
+        if starts_a_form(text[:middle]):
+            low = middle
+        else:
+            high = middle - 1
+    raise Refused(2, low)
+
+
+def check(top, bot):
+    """Refusals 3 to 6 of rows handed over as numbers."""
+    if max(len(top), len(bot)) > WIDEST:
+        raise Refused(3, WIDEST + 1)
+    if len(top) != len(bot) or not top:
+        raise Refused(4, min(len(top), len(bot)) + 1)
+    for position, net in enumerate(top + bot, 1):
+        if net > HIGHEST_NET:
+            raise Refused(5, position)
+    pins = top + bot
+    lone = [n for n in range(1, HIGHEST_NET + 1) if pins.count(n) == 1]
+    if lone:
+        raise Refused(6, lone[0])
+
+
+# --- spans and constraints ---------------------------------------------------------------------------------------------------
+
+def columns_of(top, bot):
+    """For each net its pin columns, rising."""
+    columns = {}
+    for c, pair in enumerate(zip(top, bot), 1):
+        for net in set(pair) - {0}:
+            columns.setdefault(net, []).append(c)
+    return columns
+
+
+def spans_of(top, bot):
+    return {n: (cs[0], cs[-1]) for n, cs in columns_of(top, bot).items() if cs[0] < cs[-1]}
+
+
+def steps_of(top, bot):
+    """(upper net, lower net, column) for each column with two different nets."""
+    return [(a, b, c) for c, (a, b) in enumerate(zip(top, bot), 1) if a and b and a != b]
+
+
+def bounds(top, bot):
+    """Density, and the chain: 0 where a path returns to its start."""
+    check(top, bot)
+    spans = spans_of(top, bot)
+    density = max((sum(a <= c <= b for a, b in spans.values()) for c in range(1, len(top) + 1)), default=0)
+    below = {}
+    for a, b, _ in steps_of(top, bot):
+        below.setdefault(a, set()).add(b)
+    # nets are removed from the bottom up: what is left over lies on or above a ring
+    longest, rest = {}, set(spans)
+    while True:
+        ready = {n for n in rest if not below.get(n, set()) & rest}
+        if not ready:
+            break
+        for n in ready:
+            longest[n] = 1 + max((longest[m] for m in below.get(n, ())), default=0)
+        rest -= ready
+    return density, 0 if rest else max(longest.values(), default=0)
+
+
+# --- filling and drawing -----------------------------------------------------------------------------------------------------
+
+def fill(top, bot):
+    """The number of tracks and the track of each net; or refusal 7 with its ring."""
+    spans, steps = spans_of(top, bot), steps_of(top, bot)
+    unplaced = sorted(spans, key=lambda n: (spans[n][0], n))
+    track_of, track = {}, 0
+    while unplaced:
+        track += 1
+        end, passed = 0, []
+        for n in unplaced:
+            if spans[n][0] > end and all(b in track_of for a, b, _ in steps if a == n):
+                track_of[n], end = track, spans[n][1]
+            else:
+                passed.append(n)
+        if len(passed) == len(unplaced):
+            ring = ring_of(steps, set(unplaced))
+            raise Refused(7, len(ring), ring)
+        unplaced = passed
+    return track, track_of
+
+
+def ring_of(steps, unplaced):
+    net, walked = min(unplaced), []
+    while net not in [n for n, _ in walked]:
+        column, lower = min((c, b) for a, b, c in steps if a == net and b in unplaced)
+        walked.append((net, column))
+        net = lower
+    return walked[[n for n, _ in walked].index(net):]
+
+
+def draw(top, bot):
+    """The number of tracks, the records and the pieces (kind, line, from, to)."""
+    tracks, track_of = fill(top, bot)
+    records, pieces = [], []
+    for net, columns in sorted(columns_of(top, bot).items()):
+        first, last, track = columns[0], columns[-1], track_of.get(net, 0)
+        records.append((net, first, last, track))
+        if first == last:
+            pieces.append((1, first, 0, tracks + 1))
+            continue
+        pieces.append((0, track, first, last))
+        for c in columns:
+            low = 0 if bot[c - 1] == net else track
+            high = tracks + 1 if top[c - 1] == net else track
+            pieces += [(1, c, low, high), (2, c, track, track)]
+    return tracks, records, pieces
+
+
+def route(top, bot, ring=RING, board=BOARD, records=RECORDS):
+    """Refusals 1 and 3 to 7, or tracks, records and pieces."""
+    for lent, needed in ((records, RECORDS), (ring, RING), (board, BOARD)):
+        if lent < needed:
+            raise Refused(1, needed)
+    check(top, bot)
+    return draw(top, bot)
+
+
+# --- board files -------------------------------------------------------------------------------------------------------------
+
+def bits(fields):
+    """Fields of (value, width), most significant first, as bytes."""
+    text = "".join(format(value, f"0{width}b") for value, width in fields)
+    return int(text, 2).to_bytes(len(text) // 8, "big")
+
+
+def encode(width, tracks, pieces):
+    return bits([(width, 10), (tracks, 9), (len(pieces), 12), (0, 1)]) + b"".join(
+        bits([(kind, 2), (line, 10), (a, 10), (b, 10)]) for kind, line, a, b in pieces)
+
+
+def fields_of(word, widths):
+    text, out = format(int.from_bytes(word, "big"), "032b"), []
+    for w in widths:
+        out.append(int(text[:w], 2))
+        text = text[w:]
+    return out
+
+
+def piece_right(width, tracks, piece):
+    kind, line, a, b = piece
+    if kind == 0:
+        return 1 <= line <= tracks and 1 <= a < b <= width
+    if kind == 1:
+        return 1 <= line <= width and 0 <= a < b <= tracks + 1
+    return kind == 2 and 1 <= line <= width and 1 <= a <= tracks and a == b
+
+
+def open_board(file):
+    """Width, tracks and pieces; or refusals 8 and 9."""
+    if len(file) < 4:
+        raise Refused(8, 4)
+    width, tracks, count, spare = fields_of(file[:4], (10, 9, 12, 1))
+    if len(file) != 4 + 4 * count:
+        raise Refused(8, 4 + 4 * count)
+    if not 1 <= width <= WIDEST or spare:
+        raise Refused(9, 0)
+    pieces = [tuple(fields_of(file[4 * i:4 * i + 4], (2, 10, 10, 10))) for i in range(1, count + 1)]
+    for number, piece in enumerate(pieces, 1):
+        if not piece_right(width, tracks, piece):
+            raise Refused(9, number)
+    return width, tracks, pieces
+
+
+# --- the judge ---------------------------------------------------------------------------------------------------------------
+
+def points_of(piece):
+    """The points of a piece, each with its layer: trunks on layer 0, branches on 1, contacts on both."""
+    kind, line, a, b = piece
+    if kind == 0:
+        return [(0, c, line) for c in range(a, b + 1)]
+    if kind == 1:
+        return [(1, line, r) for r in range(a, b + 1)]
+    return [(0, line, a), (1, line, a)]
+
+
+def judge(top, bot, file, scratch=SCRATCH):
+    """The tracks of a good board; or refusals 1, 3 to 6, 8 to 10 and faults 11 to 13."""
+    if scratch < SCRATCH:
+        raise Refused(1, SCRATCH)
+    check(top, bot)
+    width, tracks, pieces = open_board(file)
+    if width != len(top):
+        raise Refused(10, width)
+    # copper of one layer that covers a point is one conductor there; pieces are flooded from point to point
+    over = {}
+    for i, piece in enumerate(pieces):
+        for point in points_of(piece):
+            over.setdefault(point, []).append(i)
+    colour, colours = [None] * len(pieces), 0
+    for start in range(len(pieces)):
+        if colour[start] is None:
+            colour[start], wave = colours, [start]
+            while wave:
+                for point in points_of(pieces[wave.pop()]):
+                    for j in over[point]:
+                        if colour[j] is None:
+                            colour[j] = colours
+                            wave.append(j)
+            colours += 1
+    # a pin touches a branch over its point; all branches over one point are of one colour already
+    branches = {}
+    for i, piece in enumerate(pieces):
+        if piece[0] == 1:
+            for _, c, r in points_of(piece):
+                branches[c, r] = colour[i]
+    place = {}
+    for c, (a, b) in enumerate(zip(top, bot), 1):
+        for position, net, row in ((c, a, tracks + 1), (width + c, b, 0)):
+            if net:
+                place[position] = (net, branches.get((c, row), ("alone", position)))
+    owner = {}
+    for position in sorted(place):
+        net, group = place[position]
+        if owner.setdefault(group, net) != net:
+            raise Refused(11, position)
+    first = {}
+    for position in sorted(place):
+        net, group = place[position]
+        if first.setdefault(net, group) != group:
+            raise Refused(12, position)
+    for number, i in enumerate(range(len(pieces)), 1):
+        if colour[i] not in owner:
+            raise Refused(13, number)
+    return tracks
+
+
+# --- blanks and programs -----------------------------------------------------------------------------------------------------
+
+def blank(tracks):
+    for held in STOCK:
+        if tracks <= held:
+            return held
+    raise Refused(14, tracks)
+
+
+def line(word, *numbers):
+    return " ".join([word, *map(str, numbers)]).encode() + b"\n"
+
+
+def refused_lines(refusal):
+    return line("REFUSED", refusal.number, refusal.place) + b"".join(line("RING", n, c) for n, c in refusal.ring)
+
+
+def within_limit(data):
+    if len(data) > LIMIT:
+        raise Refused(0, LIMIT)
+    return data
+
+
+def read(text):
+    top, bot = parse(within_limit(text))
+    check(top, bot)
+    return top, bot
+
+
+def listing(text):
+    try:
+        top, bot = read(text)
+        tracks, records, pieces = route(top, bot)
+        density, chain = bounds(top, bot)
+        return (line("BOARD", len(top), tracks, blank(tracks)) + line("BOUND", density, chain)
+                + b"".join(line("NET", *r) for r in records) + line("END", len(pieces)))
+    except Refused as refusal:
+        return refused_lines(refusal)
+
+
+def board(text):
+    try:
+        top, bot = read(text)
+        tracks, _, pieces = route(top, bot)
+        return encode(len(top), tracks, pieces)
+    except Refused as refusal:
+        return refused_lines(refusal)
+
+
+def judged(pins, file):
+    try:
+        top, bot = read(pins)
+        return line("GOOD", judge(top, bot, within_limit(file)))
+    except Refused as refusal:
+        return refused_lines(refusal)
