@@ -11,3 +11,5 @@ pub mod SpanLaws
 pub mod PathLaws
 pub mod ChainLaws
 pub mod DensityLaws
+pub mod RowLaws
+pub mod AnswerLaws

@@ -1,5 +1,8 @@
 // A channel handed over as two rows of net numbers, and what is answered about it.
+mod rows;
+
 use refusal::Refusal;
+pub use rows::check;
 
 // What the check of two rows answers.
 pub enum RowsAnswer {

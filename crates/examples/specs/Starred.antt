@@ -8,7 +8,7 @@ use lib.ListN.{length, take, drop, set}
 use lib.Dec.{eqb}
 use Rattle.lists.specs.Lists.{keep, each, anyOf, allOf, from, headOr, lastOr, greatest, least, at}
 use Rattle.lists.specs.Bytes.{bytes, digitsOf}
-use Rattle.refusal.specs.Refusals.{numberOf, placeOf, Told, refuseIf, refuseAtFirst, _or-else_, answered, filledUnless}
+use Rattle.refusal.specs.Refusals.{Told, refuseIf, refuseAtFirst, _or-else_, answered, filledUnless}
 use Rattle.refusal.specs.Trays.{shortTray, scratchTray}
 use Rattle.grid.specs.declared.Piece.{Piece}
 use Rattle.grid.specs.declared.Piece.the-variants.{Trunk, Branch}
@@ -125,7 +125,7 @@ pub starred :
     ∷ [])
     ≡ true
 unfolding
-    keep each anyOf allOf from headOr lastOr greatest least at bytes digitsOf numberOf placeOf refuseIf refuseAtFirst _or-else_ answered filledUnless shortTray
+    keep each anyOf allOf from headOr lastOr greatest least at bytes digitsOf refuseIf refuseAtFirst _or-else_ answered filledUnless shortTray
     kindOf left right low high lineOf fromOf toOf fieldsRight makePiece meet covers touches
     isNet pinColumns firstColumn lastColumn pinCount nets hasSpan spanning spansOver spansOf density above drops depth chain
     tooWide uneven highNet lonePin rowsRefusal boundsAnswer boundsTold columnOf rowOf netOf pinTouches

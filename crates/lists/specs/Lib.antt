@@ -11,3 +11,4 @@ pub mod Digits
 pub mod Orders
 pub mod Places
 pub mod Eaches
+pub mod Tallies

@@ -8,7 +8,7 @@ use Rattle.refusal.specs.declared.Refusal.{Refusal}
 use Rattle.refusal.specs.declared.Refusal.the-variants.{ShortTray, Garbled, TooWide, Uneven, HighNet, LonePin, Tangled, Torn, BadField, WrongBoard, NoBlank}
 
 -- the column "No"
-unfoldable pub numberOf : Refusal → ℕ
+abbrev pub numberOf : Refusal → ℕ
 numberOf (ShortTray p) = 1
 numberOf (Garbled p) = 2
 numberOf (TooWide p) = 3
@@ -22,7 +22,7 @@ numberOf (WrongBoard p) = 10
 numberOf (NoBlank p) = 14
 
 -- the place that the column "Given when; place" names
-unfoldable pub placeOf : Refusal → ℕ
+abbrev pub placeOf : Refusal → ℕ
 placeOf (ShortTray p) = p
 placeOf (Garbled p) = p
 placeOf (TooWide p) = p

@@ -36,7 +36,6 @@ trays-fit trays = (fits, silent)
         (no-member→empty (map (λ (t : Tray). t .needed) (keep lacks trays)) (λ n m. let r = Memᴰ·of-map (λ (t : Tray). t .needed) (keep lacks trays) m in let k = keep-member lacks trays (r .1) in let a = h (r .0) (k .0) in let b = ltb→lt (r .0 .lent) (r .0 .needed) (k .1) in omega arith))
 
 pub refusal-numbered : (r : Refusal) → 0 < numberOf r
-unfolding numberOf
 refusal-numbered (ShortTray p) = omega arith
 refusal-numbered (Garbled p) = omega arith
 refusal-numbered (TooWide p) = omega arith

@@ -1,3 +1,6 @@
+ghost use mathlib.Core.Path.{_≡_};
+ghost use Rattle.refusal.specs.Refusals.{numberOf, placeOf};
+
 // The refusals that an operation may answer, by the shop's words, each with its place.
 // The judge's faults, numbers 11 to 13, are an enum of their own beside the judge.
 pub enum Refusal {
@@ -23,4 +26,42 @@ pub enum Refusal {
     WrongBoard(usize),
     // 14: no stock blank has so many tracks; the tracks
     NoBlank(usize),
+}
+
+// The number of a refusal in the shop's table.
+pub fn number_of(refusal: Refusal) -> u32
+    ensures { λ r. ⌜ r ≡ numberOf refusal ⌝ }
+{
+    match refusal {
+        Refusal::ShortTray(_) => 1,
+        Refusal::Garbled(_) => 2,
+        Refusal::TooWide(_) => 3,
+        Refusal::Uneven(_) => 4,
+        Refusal::HighNet(_) => 5,
+        Refusal::LonePin(_) => 6,
+        Refusal::Tangled(_) => 7,
+        Refusal::Torn(_) => 8,
+        Refusal::BadField(_) => 9,
+        Refusal::WrongBoard(_) => 10,
+        Refusal::NoBlank(_) => 14,
+    }
+}
+
+// The place that a refusal names.
+pub fn place_of(refusal: Refusal) -> usize
+    ensures { λ r. ⌜ r ≡ placeOf refusal ⌝ }
+{
+    match refusal {
+        Refusal::ShortTray(place) => place,
+        Refusal::Garbled(place) => place,
+        Refusal::TooWide(place) => place,
+        Refusal::Uneven(place) => place,
+        Refusal::HighNet(place) => place,
+        Refusal::LonePin(place) => place,
+        Refusal::Tangled(place) => place,
+        Refusal::Torn(place) => place,
+        Refusal::BadField(place) => place,
+        Refusal::WrongBoard(place) => place,
+        Refusal::NoBlank(place) => place,
+    }
 }
