@@ -3,6 +3,7 @@ pub mod Open
 pub mod Code
 pub mod FieldLaws
 pub mod Reading
+pub mod CodeLaws
 pub mod BitLaws
 pub mod Promise
 pub mod RoundTrip

@@ -1,5 +1,15 @@
-// The board file, and what its reader answers.
+// The board file: the words that a writer puts, and what the reader of a file of any bytes answers.
+ghost use mathlib.Core.Path.{_≡_};
+ghost use Prim.Native.Nat.{ℕ, _+_, _*_, _≤_, _<_};
+ghost use lib.ListN.{length};
+ghost use lib.Seq.{sets};
+ghost use Rattle.boardfile.specs.Encode.{word, header, pieceWord};
+ghost use Rattle.boardfile.specs.Open.{wordAt, wordRight, pieceOf, openAnswer, pieceAnswer};
+ghost use Rattle.boardfile.specs.Code.{SmallWords, firstBad};
+use grid::Column;
 use grid::Piece;
+use grid::Row;
+use grid::Track;
 use refusal::Refusal;
 
 // What opening a board file answers.
@@ -12,4 +22,182 @@ pub enum OpenAnswer {
 pub enum PieceAnswer {
     Found(Piece),
     Refused(Refusal),
+}
+
+// A byte as a number.
+fn wide(b: u8) -> u32
+    ensures { λ r. ⌜ r ≡ b ⌝ }
+{
+    b as u32
+}
+
+// The 32 bits that begin at byte `at`, most significant first.
+pub fn word_at(board: &[u8], at: usize) -> u32
+    requires { ⌜ at + 4 ≤ length (now board) ⌝ }
+    ensures { λ r. ⌜ r ≡ wordAt (now (board .entry)) at ⌝ }
+{
+    wide(board[at]) * 16777216
+        + wide(board[at + 1]) * 65536
+        + wide(board[at + 2]) * 256
+        + wide(board[at + 3])
+}
+
+// Four bytes of a word, most significant first, at byte `at`; the other bytes stay.
+pub fn put_word(board: &mut [u8], at: usize, v: u32)
+    requires { ⌜ at + 4 ≤ length (now board) ⌝ }
+    ensures { λ _. ⌜ now (board .exit) ≡ sets (now (board .entry)) at (word v) ⌝ }
+{
+    board[at] = (v / 16777216 % 256) as u8;
+    board[at + 1] = (v / 65536 % 256) as u8;
+    board[at + 2] = (v / 256 % 256) as u8;
+    board[at + 3] = (v % 256) as u8;
+}
+
+// The header of a board of `width` columns, `tracks` tracks and `count` pieces, at the front.
+pub fn put_header(board: &mut [u8], width: u32, tracks: u32, count: u32)
+    requires { ⌜ (4 ≤ length (now board)) × (width < 1024) × (tracks < 512) × (count < 4096) ⌝ }
+    ensures { λ _. ⌜ now (board .exit) ≡ sets (now (board .entry)) 0 (word (header width tracks count)) ⌝ }
+{
+    put_word(board, 0, width * 4194304 + tracks * 8192 + count * 2);
+}
+
+// The word of a piece in the file.
+fn word_of(piece: Piece) -> u32
+    requires { ⌜ SmallWords piece ⌝ }
+    ensures { λ r. ⌜ r ≡ pieceWord piece ⌝ }
+{
+    match piece {
+        Piece::Trunk { track, first, last } => track.0 * 1048576 + first.0 * 1024 + last.0,
+        Piece::Branch { column, low, high } => {
+            1073741824 + column.0 * 1048576 + low.0 * 1024 + high.0
+        }
+        Piece::Contact { column, track } => {
+            2147483648 + column.0 * 1048576 + track.0 * 1024 + track.0
+        }
+    }
+}
+
+// One piece's word at byte `at`; the other bytes stay.
+pub fn put_piece(board: &mut [u8], at: usize, piece: Piece)
+    requires { ⌜ (at + 4 ≤ length (now board)) × SmallWords piece ⌝ }
+    ensures { λ _. ⌜ now (board .exit) ≡ sets (now (board .entry)) at (word (pieceWord piece)) ⌝ }
+{
+    put_word(board, at, word_of(piece));
+}
+
+// The fields of a piece's word are in their ranges on a grid of `width` columns and `tracks` tracks.
+fn word_right(width: u32, tracks: u32, v: u32) -> bool
+    requires { ⌜ tracks < 512 ⌝ }
+    ensures { λ r. ⌜ r ≡ wordRight width tracks v ⌝ }
+{
+    let kind = v / 1073741824;
+    let line = v / 1048576 % 1024;
+    let from = v / 1024 % 1024;
+    let to = v % 1024;
+    if kind == 0 {
+        return (1 <= line) & (line <= tracks) & ((1 <= from) & ((from < to) & (to <= width)));
+    }
+    if kind == 1 {
+        return (1 <= line) & (line <= width) & ((from < to) & (to <= tracks + 1));
+    }
+    if kind == 2 {
+        return (1 <= line) & (line <= width) & ((1 <= from) & (from <= tracks) & (from == to));
+    }
+    false
+}
+
+// The piece of a word whose fields are right.
+fn piece_of(v: u32) -> Piece
+    ensures { λ r. ⌜ r ≡ pieceOf v ⌝ }
+{
+    let kind = v / 1073741824;
+    let line = v / 1048576 % 1024;
+    let from = v / 1024 % 1024;
+    let to = v % 1024;
+    if kind == 0 {
+        return Piece::Trunk {
+            track: Track(line),
+            first: Column(from),
+            last: Column(to),
+        };
+    }
+    if kind == 1 {
+        return Piece::Branch {
+            column: Column(line),
+            low: Row(from),
+            high: Row(to),
+        };
+    }
+    Piece::Contact {
+        column: Column(line),
+        track: Track(from),
+    }
+}
+
+// The number of the first of `count` pieces whose word breaks a range or kind, or 0 if there is none.
+fn first_bad(board: &[u8], width: u32, tracks: u32, count: u32) -> u32
+    requires { ⌜ (length (now board) ≡ 4 + 4 * count) × (tracks < 512) × (count < 4096) ⌝ }
+    ensures { λ r. ⌜ r ≡ firstBad (now (board .entry)) width tracks count ⌝ }
+{
+    let mut i: u32 = 1;
+    while i <= count {
+        if !word_right(width, tracks, word_at(board, 4 * i as usize)) {
+            return i;
+        }
+        i += 1;
+    }
+    0
+}
+
+// Opens a board file of any bytes. Time is linear in the file.
+pub fn open(board: &[u8]) -> OpenAnswer
+    ensures { λ r. ⌜ r ≡ openAnswer (now (board .entry)) ⌝ }
+{
+    if board.len() < 4 {
+        return OpenAnswer::Refused(Refusal::Torn(4));
+    }
+    let head = word_at(board, 0);
+    let width = head / 4194304;
+    let tracks = head / 8192 % 512;
+    let count = head / 2 % 4096;
+    let due = 4 + 4 * count as usize;
+    if board.len() != due {
+        return OpenAnswer::Refused(Refusal::Torn(due));
+    }
+    if width < 1 || 512 < width || head % 2 == 1 {
+        return OpenAnswer::Refused(Refusal::BadField(0));
+    }
+    let bad = first_bad(board, width, tracks, count);
+    if bad != 0 {
+        return OpenAnswer::Refused(Refusal::BadField(bad as usize));
+    }
+    OpenAnswer::Board {
+        width,
+        tracks,
+        count,
+    }
+}
+
+// The piece of a given number, from 1; another number is refused with that number as place. It takes bytes that were never opened too.
+pub fn piece_at(board: &[u8], number: usize) -> PieceAnswer
+    ensures { λ r. ⌜ r ≡ pieceAnswer (now (board .entry)) number ⌝ }
+{
+    if board.len() < 4 {
+        return PieceAnswer::Refused(Refusal::BadField(number));
+    }
+    let head = word_at(board, 0);
+    let width = head / 4194304;
+    let tracks = head / 8192 % 512;
+    let count = (head / 2 % 4096) as usize;
+    if number < 1 || count < number {
+        return PieceAnswer::Refused(Refusal::BadField(number));
+    }
+    if board.len() < 4 * number + 4 {
+        return PieceAnswer::Refused(Refusal::BadField(number));
+    }
+    let v = word_at(board, 4 * number);
+    if !word_right(width, tracks, v) {
+        return PieceAnswer::Refused(Refusal::BadField(number));
+    }
+    PieceAnswer::Found(piece_of(v))
 }

@@ -1,0 +1,29 @@
+-- `word_right` meets its contract: each return is the row of tests of its kind, once the tests of the kind have their values. Kind 3 is none.
+use borrow.Author.Needs.{needs}
+use borrow.Author.Tests.{eq-eqb, ne-eqb}
+use Rattle.grid.specs.Words.{fieldsRight}
+use Rattle.boardfile.specs.Open.{wordKind, wordLine, wordFrom, wordTo, wordRight}
+use Rattle.boardfile.proofs.word_right.Statement.{statement}
+use Rattle.boardfile.proofs.word_right.Tie as tie
+
+returns : tie.Need-returns
+unfolding wordRight fieldsRight wordKind wordLine wordFrom wordTo
+returns c = rw (eq-eqb _ _ (c .if1 .taken))
+
+add-result : tie.Need-add-result
+add-result c = search needs
+
+returns-2 : tie.Need-returns-2
+unfolding wordRight fieldsRight wordKind wordLine wordFrom wordTo
+returns-2 c = rw (ne-eqb _ _ (c .before .if1 .left), eq-eqb _ _ (c .if2 .taken))
+
+returns-3 : tie.Need-returns-3
+unfolding wordRight fieldsRight wordKind wordLine wordFrom wordTo
+returns-3 c = rw (ne-eqb _ _ (c .before .before .if1 .left), ne-eqb _ _ (c .before .if2 .left), eq-eqb _ _ (c .if3 .taken))
+
+returns-4 : tie.Need-returns-4
+unfolding wordRight fieldsRight wordKind wordLine wordFrom wordTo
+returns-4 c = rw (ne-eqb _ _ (c .before .before .if1 .left), ne-eqb _ _ (c .before .if2 .left), ne-eqb _ _ (c .if3 .left))
+
+pub word-right-spec : {M : Type 1} → statement M
+word-right-spec = tie.close (tie.spec returns add-result returns-2 returns-3 returns-4)
