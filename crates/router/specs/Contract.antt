@@ -1,0 +1,56 @@
+-- What the router promises of what the caller then holds: the equations of Route, and demand 3 whole.
+use Prim.Native.Nat.{ℕ, _+_, _*_, _≤_}
+use mathlib.Core.Path.{_≡_}
+use mathlib.Core.List.{List}
+use mathlib.Core.Logic.{_↔_}
+use mathlib.Core.Option.{none}
+use lib.ListN.{length, take}
+use Rattle.refusal.specs.declared.Refusal.the-variants as refusal
+use Rattle.refusal.specs.Trays.{Tray, ringTray, boardTray}
+use Rattle.channel.specs.Channel.{Channel, width, nets}
+use Rattle.channel.specs.Density.{density}
+use Rattle.channel.specs.Constraints.{chain, Step, Ring, Tangled, Unconstrained}
+use Rattle.channel.specs.Answers.{Escapes}
+use Rattle.wiring.specs.Layouts.{Good, OneTrunkEach}
+use Rattle.leftedge.specs.Walk.{ringNumbers}
+use Rattle.leftedge.specs.Nets.{fill}
+use Rattle.boardfile.specs.Open.{openRefusal, fileWidth, fileTracks, fileCount, fileLayout}
+use Rattle.promises.specs.Router.{NoLayout, Fewest}
+use Rattle.router.specs.declared.RouteAnswer.{RouteAnswer}
+use Rattle.router.specs.declared.RouteAnswer.the-variants.{Routed, Refused}
+use Rattle.router.specs.Route.{layoutDrawn, routeTold}
+
+-- the front of the ring buffer is a ring of k different nets, each above the next in its named column, and the last above the first
+pub record ShowsRing (ch : Channel) (k : ℕ) (ring : List ℕ) : Type 0 where
+  pub steps : List Step
+  pub counted : length steps ≡ k
+  pub isRing : Ring ch steps
+  pub stored : take (2 * k) ring ≡ ringNumbers steps
+
+-- the board file of n pieces at the front of the board: it opens, has the channel's width and t tracks, holds just the pieces drawn, and these are a
+-- good layout with at most one trunk piece per net
+pub record HoldsLayout (ch : Channel) (t n : ℕ) (file : List ℕ) : Type 0 where
+  pub opens : openRefusal file ≡ none
+  pub sameWidth : fileWidth file ≡ width ch
+  pub sameTracks : fileTracks file ≡ t
+  pub sameCount : fileCount file ≡ n
+  pub drawn : fileLayout file ≡ layoutDrawn ch (fill ch)
+  pub good : Good ch (fileLayout file)
+  pub oneTrunkEach : OneTrunkEach ch (fileLayout file)
+
+-- Demand 3, of the answer r and of the ring and board that the caller then holds. Rules out: a router that calls each channel tangled, or does so
+-- before filling (tangled-exactly); one that hands out the same or an empty board (laid-out); tracks answered one too many (laid-out, fewest).
+pub record RoutePromise (ch : Channel) (r : RouteAnswer) (ring board : List ℕ) : Type 0 where
+  -- "refuses .. as tangled exactly when no good layout of it with at most one trunk piece per net exists"
+  pub tangled-exactly : (routeTold r .number ≡ 7) ↔ NoLayout ch
+  -- and exactly when a ring exists
+  pub ring-exactly : (routeTold r .number ≡ 7) ↔ Tangled ch
+  -- "That refusal shows a ring of different nets"
+  pub ring-shown : (k : ℕ) → r ≡ Refused (refusal.Tangled k) → ShowsRing ch k ring
+  -- "Every other such channel gets a good layout with at most one trunk piece per net"
+  pub every-other : (routeTold r .number ≡ 7 → ⊥) → (t n : ℕ) × (r ≡ Routed t n)
+  pub laid-out : (t n : ℕ) → r ≡ Routed t n → HoldsLayout ch t n (take (4 + 4 * n) board)
+  -- "Where no column holds pins of two different nets, the tracks .. equal the density, and every other good layout .. has at least as many"
+  pub fewest : Unconstrained ch → (t n : ℕ) → r ≡ Routed t n → (t ≡ density ch) × Fewest ch t
+  -- 01, "Filling tracks": "Density and chain are each at most t, and t is at most the number of nets"
+  pub floors : (t n : ℕ) → r ≡ Routed t n → (density ch ≤ t) × (chain ch ≤ t) × (t ≤ length (nets ch))
