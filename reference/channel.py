@@ -34,7 +34,8 @@ def parse(text):
     """The two rows of a text, or refusal 2."""
     match = FORM.fullmatch(text)
     if match:
-        return [[int(n) for n in part.split()] for part in match.groups()]
+        # a number of more than nine digits is some number over 511, whatever it is
+        return [[int(n) if len(n) < 10 else 10**9 for n in part.split()] for part in match.groups()]
     low, high = 0, len(text)  # sharing a start with a text of the form is lost once and for all
     while low < high:
         middle = (low + high + 1) // 2

@@ -1,0 +1,126 @@
+"""Makes what the cases program reads and what it must write: `python3 reference/cases.py crates/cases`.
+
+A case is a byte for the kind of question, two bytes for a length, most significant first, and so many bytes. The answers come from the program in
+channel.py, which shares nothing with the proved code.
+"""
+import random
+import sys
+from pathlib import Path
+
+import board_cases
+import channel
+import row_cases
+import text_cases
+
+OPEN, PIECE, BLANK, READ, CHECK, BOUNDS, FILL, JUDGE = range(8)
+
+
+def pair(number):
+    return number.to_bytes(2, "big")
+
+
+def rows_data(top, bot):
+    """Two rows: the length of TOP, then all numbers, two bytes each."""
+    return pair(len(top)) + b"".join(map(pair, top)) + b"".join(map(pair, bot))
+
+
+class Cases:
+    """The input so far, and the lines due."""
+
+    def __init__(self):
+        self.input, self.lines, self.count = bytearray(), [], 0
+
+    def add(self, kind, data, *lines):
+        assert len(data) < 65536
+        self.input += bytes([kind]) + pair(len(data)) + data
+        self.lines += [" ".join(map(str, line)) for line in lines]
+        self.count += 1
+
+    def told(self, name, ask, *args):
+        """The line of an answer: 0 and the values, or the number of a refusal and its place."""
+        try:
+            return (name, 0, *ask(*args))
+        except channel.Refused as refusal:
+            return (name, refusal.number, refusal.place)
+
+    def open(self, file):
+        def ask():
+            width, tracks, pieces = channel.open_board(file)
+            return width, tracks, len(pieces)
+
+        self.add(OPEN, file, self.told("OPEN", ask))
+
+    def piece(self, number, file):
+        """The piece of a number. Of a file that does not open, a word that it lacks or that is out of range is no piece either."""
+
+        def ask():
+            if len(file) >= 4:
+                width, tracks, count, _ = channel.fields_of(file[:4], (10, 9, 12, 1))
+                word = file[4 * number:4 * number + 4]
+                if 1 <= number <= count and len(word) == 4:
+                    piece = channel.fields_of(word, (2, 10, 10, 10))
+                    if channel.piece_right(width, tracks, piece):
+                        return piece
+            raise channel.Refused(9, number)
+
+        self.add(PIECE, pair(number) + file, self.told("PIECE", ask))
+
+    def blank(self, tracks):
+        self.add(BLANK, pair(tracks), self.told("BLANK", lambda: (channel.blank(tracks),)))
+
+    def read(self, text):
+        """Read into rows that hold 7777 everywhere: what is not filled must still hold it."""
+        try:
+            top, bot = channel.parse(text)
+            channel.check(top, bot)
+            lines = [("READ", 0, len(top)), ("TOP", *top), ("BOT", *bot)]
+        except channel.Refused as refusal:
+            lines = [("READ", refusal.number, refusal.place)]
+        self.add(READ, text, *lines, ("KEPT",))
+
+    def check(self, top, bot):
+        def ask():
+            channel.check(top, bot)
+            return ()
+
+        self.add(CHECK, rows_data(top, bot), self.told("CHECK", ask))
+
+    def bounds(self, top, bot):
+        self.add(BOUNDS, rows_data(top, bot), self.told("BOUNDS", lambda: channel.bounds(top, bot)))
+
+    def fill(self, top, bot):
+        """The track of each net by rising number, or the ring; the rest of the ring buffer, which holds 7777, must still hold it."""
+        try:
+            channel.check(top, bot)
+            tracks, track_of = channel.fill(top, bot)
+            nets = sorted(channel.columns_of(top, bot))
+            lines = [("FILL", 0, tracks), ("TRACKS", *(track_of.get(n, 0) for n in nets))]
+        except channel.Refused as refusal:
+            lines = [("FILL", refusal.number, refusal.place)]
+            if refusal.number == 7:
+                lines.append(("RING", *(x for step in refusal.ring for x in step)))
+        self.add(FILL, rows_data(top, bot), *lines, ("KEPT",))
+
+    def channel_cases(self, top, bot):
+        self.bounds(top, bot)
+        self.fill(top, bot)
+
+    def judge(self, top, bot, file):
+        self.add(JUDGE, pair(2 + 2 * (len(top) + len(bot))) + rows_data(top, bot) + file,
+                 self.told("JUDGE", lambda: (channel.judge(top, bot, file),)))
+
+
+def main(folder):
+    cases = Cases()
+    board_cases.add_all(cases)
+    text_cases.add_all(cases)
+    row_cases.add_all(cases)
+    cases.input += bytes([OPEN]) + pair(5) + bytes(4)  # five bytes are announced, and four follow
+    cases.lines.append("CUT")
+    folder.joinpath("stdin").write_bytes(bytes(cases.input))
+    folder.joinpath("stdout").write_text("\n".join(cases.lines) + "\n")
+    print(f"{cases.count} cases and a cut one, {len(cases.input)} bytes")
+
+
+if __name__ == "__main__":
+    main(Path(sys.argv[1]))
