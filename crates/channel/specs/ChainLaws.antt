@@ -54,14 +54,14 @@ module _ {ch : Channel} {steps : List Step} (ring : Ring ch steps) where
       omega arith
 
 -- the greatest depth of a net with a span, counted to one more than there are nets
-abbrev deepest : Channel → ℕ
+abbrev pub deepest : Channel → ℕ
 deepest ch = greatest (map (depth (suc (length (nets ch))) ch) (spanning ch))
 
-chain-counts : (ch : Channel) → deepest ch ≤ length (nets ch) → chain ch ≡ deepest ch
+pub chain-counts : (ch : Channel) → deepest ch ≤ length (nets ch) → chain ch ≡ deepest ch
 unfolding chain
 chain-counts ch h = rw (T→true (leb (deepest ch) (length (nets ch))) (le→leb (deepest ch) (length (nets ch)) h)) refl
 
-chain-overruns : (ch : Channel) → length (nets ch) < deepest ch → chain ch ≡ 0
+pub chain-overruns : (ch : Channel) → length (nets ch) < deepest ch → chain ch ≡ 0
 unfolding chain
 chain-overruns ch h = rw (fails→false (leb (deepest ch) (length (nets ch))) (λ t. let l = leb→le (deepest ch) (length (nets ch)) t in omega arith)) refl
 

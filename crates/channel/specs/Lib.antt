@@ -3,6 +3,7 @@ pub mod Density
 pub mod Constraints
 pub mod Answers
 pub mod Spans
+pub mod Starts
 pub mod Rows
 pub mod Laws
 pub mod EscapeLaws
@@ -13,3 +14,9 @@ pub mod ChainLaws
 pub mod DensityLaws
 pub mod RowLaws
 pub mod AnswerLaws
+pub mod BoundLaws
+pub mod Depths
+pub mod DepthLaws
+pub mod StartLaws
+pub mod SweepLaws
+pub mod NoteLaws

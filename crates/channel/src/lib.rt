@@ -1,8 +1,17 @@
 // A channel handed over as two rows of net numbers, and what is answered about it.
+mod chain;
+mod density;
 mod rows;
+mod spans;
 
+pub use chain::bounds;
+pub use density::Starting;
+pub use density::greatest_density;
+pub use density::nets_starting;
 use refusal::Refusal;
 pub use rows::check;
+pub use spans::Spans;
+pub use spans::find_spans;
 
 // What the check of two rows answers.
 pub enum RowsAnswer {

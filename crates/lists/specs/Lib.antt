@@ -12,3 +12,6 @@ pub mod Orders
 pub mod Places
 pub mod Eaches
 pub mod Tallies
+pub mod Unique
+pub mod Arrays
+pub mod Updates
