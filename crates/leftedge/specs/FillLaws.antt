@@ -18,16 +18,16 @@ use Rattle.leftedge.specs.TrackLaws.{tracked→placed, unclear→unplace
 use Rattle.leftedge.specs.ScanLaws.{Trace, trace, AllMet, Sound, OnTrack, Scanning, Outcome, empty, filled-by, scan-sound, scan-others, scan-sublist, scan-left, scan-known, scan-outcome}
 
 -- what holds when `done` tracks are filled
-record Settled (it : Items) (done : ℕ) (ps : List Place) (left : List ℕ) : Type 0 where
-  sub : Sublistᴰ left (it .order)
-  fresh : (n : ℕ) → List·Memᴰ n left → trackOf ps n ≡ 0
-  known : (n : ℕ) → List·Memᴰ n (it .order) → trackOf ps n ≡ 0 → List·Memᴰ n left
-  sound : Sound it done ps []
-  used : (j : ℕ) → 1 ≤ j → j ≤ done → (n : ℕ) × (trackOf ps n ≡ j)
-  count : done + length left ≤ length (it .order)
+pub record Settled (it : Items) (done : ℕ) (ps : List Place) (left : List ℕ) : Type 0 where
+  pub sub : Sublistᴰ left (it .order)
+  pub fresh : (n : ℕ) → List·Memᴰ n left → trackOf ps n ≡ 0
+  pub known : (n : ℕ) → List·Memᴰ n (it .order) → trackOf ps n ≡ 0 → List·Memᴰ n left
+  pub sound : Sound it done ps []
+  pub used : (j : ℕ) → 1 ≤ j → j ≤ done → (n : ℕ) × (trackOf ps n ≡ j)
+  pub count : done + length left ≤ length (it .order)
 
 module _ (it : Items) (orderly : Orderly it) where
-  nothing-placed : Settled it 0 [] (it .order)
+  pub nothing-placed : Settled it 0 [] (it .order)
   unfolding trackOf isPlaced anyOf
   nothing-placed =
       record {
@@ -71,6 +71,20 @@ module _ (it : Items) (orderly : Orderly it) where
         used : (j : ℕ) → 1 ≤ j → j ≤ suc done → (m : ℕ) × (trackOf qs m ≡ j)
         used j l u =
             ⊎-elim (λ e. (n, on ∙ sym e)) (λ less. let r = s .used j l (omega arith) in let k = r .1 in (r .0, scan-others t (r .0) (λ h. let z = s .fresh (r .0) h in absurd (omega arith)) ∙ r .1)) (equal? j (suc done))
+
+    -- the next track, where it takes an item
+    pub settled-next : (length (scan it (suc done) none ps left .left) ≡ length left → ⊥) → Settled it (suc done) (scan it (suc done) none ps left .placed) (scan it (suc done) none ps left .left)
+    settled-next fewer = go (scan-outcome steps left-distinct)
+      where
+        after : Scan
+        after = scan it (suc done) none ps left
+
+        steps : Trace it (suc done) none ps left (after .placed) (after .left)
+        steps = trace it (suc done) none ps left
+
+        go : Outcome it (suc done) none ps left (after .placed) (after .left) → Settled it (suc done) (after .placed) (after .left)
+        go (empty same fails) = absurd (fewer same)
+        go (filled-by m on less) = settle (after .placed) (after .left) steps m on less
 
     -- a track that stays empty: no item left is clear below
     blocked : ((n : ℕ) → List·Memᴰ n left → T (fits it none n && clearBelow it ps n) → ⊥) → (n : ℕ) → List·Memᴰ n left → (b c : ℕ) × Falls it n b c × List·Memᴰ b left

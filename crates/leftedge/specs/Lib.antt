@@ -9,3 +9,14 @@ pub mod FillLaws
 pub mod WalkLaws
 pub mod NetLaws
 pub mod NetFill
+pub mod Code
+pub mod Marked
+pub mod MarkedLaws
+pub mod TrackTurns
+pub mod FillTurns
+pub mod OrderTurns
+pub mod Ring
+pub mod RingLists
+pub mod DropLaws
+pub mod TrailLaws
+pub mod RingLaws

@@ -48,7 +48,7 @@ append-distinct (x ∷ xs) ys d e h =
     distinct-cons x (xs ++ ys) (λ m. ⊎-elim (distinct-head x xs d) (h x (List·Memᴰ·head refl)) (List·Memᴰ·append-cases xs m))
     (append-distinct xs ys (distinct-tail x xs d) e (λ n m. h n (List·Memᴰ·tail m)))
 
-starts-distinct : (ch : Channel) (a n : ℕ) → Distinct (each (starting ch) (from a n))
+pub starts-distinct : (ch : Channel) (a n : ℕ) → Distinct (each (starting ch) (from a n))
 unfolding each from Distinct starting
 starts-distinct ch a zero = tt
 starts-distinct ch a (suc n) =

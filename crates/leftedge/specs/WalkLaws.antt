@@ -59,7 +59,7 @@ visit it n (s ∷ ss) h = go (eqb (s .net) n) refl (λ k. visit it n ss k)
 
 module _ (it : Items) (left : List ℕ) (stuck : StuckWith it left) where
   -- the first drop of an item left goes to an item left
-  first-drop : (n : ℕ) → List·Memᴰ n left → Falls it n (firstDrop it left n .lower) (firstDrop it left n .column) × List·Memᴰ (firstDrop it left n .lower) left
+  pub first-drop : (n : ℕ) → List·Memᴰ n left → Falls it n (firstDrop it left n .lower) (firstDrop it left n .column) × List·Memᴰ (firstDrop it left n .lower) left
   unfolding firstDrop
   first-drop n h =
       let open? : Drop → Bool = λ d. isIn (d .lower) left in
@@ -112,7 +112,7 @@ module _ (it : Items) (left : List ℕ) (stuck : StuckWith it left) where
       go true e rest = closes trail n (isIn→member n (netsOf trail) (true→T _ e)) d inside w
       go false e rest = rest (let l = length-append trail (stepAt n (drop .column) ∷ []) in omega arith) (λ m. false→fails _ e (member→isIn m))
 
-  least-left : List·Memᴰ (least left) left
+  pub least-left : List·Memᴰ (least left) left
   least-left = go left (stuck .some-left)
     where
       go : (ns : List ℕ) → 0 < length ns → List·Memᴰ (least ns) ns

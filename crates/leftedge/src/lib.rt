@@ -1,7 +1,13 @@
-// Filling tracks by the constrained left-edge rule.
+// Filling tracks by the constrained left-edge rule, and the ring that is shown where the fill is stuck.
+mod blocks;
+mod order;
+mod ring;
+mod tracks;
+
 use grid::Column;
 use grid::Net;
 use grid::Track;
+pub use tracks::fill_tracks;
 
 // What the caller's table has of one net. A straight net's column stands twice, and its track is 0: it has none.
 pub struct NetRecord {
@@ -9,4 +15,18 @@ pub struct NetRecord {
     pub first: Column,
     pub last: Column,
     pub track: Track,
+}
+
+// How a fill ends.
+pub enum Outcome {
+    // every net with a span is placed, on so many tracks
+    Placed(u32),
+    // a track stays empty; the ring shown has so many pairs
+    Stuck(u32),
+}
+
+// A fill: how it ends, and the track of each net by its number, 0 where it has none.
+pub struct Filled {
+    pub outcome: Outcome,
+    pub tracks: [u32; 512],
 }

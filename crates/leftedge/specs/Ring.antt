@@ -1,0 +1,70 @@
+-- What the code of the walk keeps: for each net its lowest column over an unplaced net, and the nets that a walk down by these columns meets.
+use Prim.Native.Nat.{ℕ, zero, suc, _+_, _≤_, _<_}
+use mathlib.Core.Path.{_≡_}
+use mathlib.Core.List.{List, [], _∷_, _++_, map, List·Memᴰ}
+use mathlib.Core.Bool.{Bool, _&&_}
+use lib.ListN.{length, take, getD}
+use lib.Seq.{slice}
+use lib.Dec.{eqb}
+use Rattle.lists.specs.Lists.{keep, upTo, headOr, at}
+use Rattle.channel.specs.Channel.{Channel, width}
+use Rattle.channel.specs.Constraints.{above, Step}
+use Rattle.leftedge.specs.Walk.{ringNumbers}
+
+-- in column c net n is above a net without a track
+unfoldable pub overUnplaced : Channel → List ℕ → ℕ → ℕ → Bool
+overUnplaced ch tracks n c = above ch n (at (ch .bot) c) c && eqb (getD tracks (at (ch .bot) c) 0) 0
+
+-- the lowest such column, 0 if there is none
+unfoldable pub lowestDrop : Channel → List ℕ → ℕ → ℕ
+lowestDrop ch tracks n = headOr 0 (keep (overUnplaced ch tracks n) (upTo (width ch)))
+
+-- the net below n in the column that is kept for n
+abbrev pub netBelow : List ℕ → List ℕ → ℕ → ℕ
+netBelow bot columns n = at bot (getD columns n 0)
+
+-- the net after k steps from n
+unfoldable pub after : (ℕ → ℕ) → ℕ → ℕ → ℕ
+after next n zero = n
+after next n (suc k) = next (after next n k)
+
+-- the nets of the first k steps
+unfoldable pub met : (ℕ → ℕ) → ℕ → ℕ → List ℕ
+met next n zero = []
+met next n (suc k) = met next n k ++ (after next n k ∷ [])
+
+-- a net with the column that is kept for it, and so for each net
+abbrev pub pairOf : List ℕ → ℕ → Step
+pairOf columns n = record { net = n; column = getD columns n 0 }
+
+abbrev pub stepsBy : List ℕ → List ℕ → List Step
+stepsBy columns ns = map (pairOf columns) ns
+
+-- the pairs of the trail's places f to i - 1, counted from 0, as numbers
+abbrev pub pairs : List ℕ → List ℕ → ℕ → ℕ → List ℕ
+pairs columns trail f i = ringNumbers (stepsBy columns (slice f i trail))
+
+-- a list of nets that the walk never leaves
+pub record Confines (bot columns : List ℕ) (start : ℕ) (ns : List ℕ) : Type 0 where
+  pub few : length ns ≤ 511
+  pub low : (n : ℕ) → List·Memᴰ n ns → n < 512
+  pub begins : List·Memᴰ start ns
+  pub column : (n : ℕ) → List·Memᴰ n ns → (1 ≤ getD columns n 0) × (getD columns n 0 ≤ length bot)
+  pub stays : (n : ℕ) → List·Memᴰ n ns → List·Memᴰ (netBelow bot columns n) ns
+
+abbrev pub Confined : List ℕ → List ℕ → ℕ → Type 0
+Confined bot columns start = (ns : List ℕ) × Confines bot columns start ns
+
+-- what the number v says of n and the nets met: 0 that n is not among them, else 1 plus its place
+pub data Visited (ns : List ℕ) (n v : ℕ) : Type 0 where
+  not-yet : v ≡ 0 → (List·Memᴰ n ns → ⊥) → Visited ns n v
+  visited : (i : ℕ) → v ≡ i + 1 → i < length ns → getD ns i 0 ≡ n → Visited ns n v
+
+-- A walk that has come to n in so many steps: its nets are the front of `trail`, none is met again on the way, and `visits` has the place of each.
+pub record Trail (next : ℕ → ℕ) (start : ℕ) (trail visits : List ℕ) (n steps : ℕ) : Type 0 where
+  pub long : length trail ≡ 512
+  pub marked : length visits ≡ 512
+  pub here : n ≡ after next start steps
+  pub nets : take steps trail ≡ met next start steps
+  pub unmet : (k : ℕ) → k < steps → List·Memᴰ (after next start k) (met next start k) → ⊥
+  pub places : (m : ℕ) → m < 512 → Visited (met next start steps) m (getD visits m 0)
