@@ -15,3 +15,4 @@ pub mod Tallies
 pub mod Unique
 pub mod Arrays
 pub mod Updates
+pub mod Stores

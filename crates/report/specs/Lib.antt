@@ -1,2 +1,5 @@
 pub mod Lines
+pub mod Code
 pub mod Programs
+pub mod PutLaws
+pub mod CodeLaws
