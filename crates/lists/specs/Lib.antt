@@ -16,3 +16,4 @@ pub mod Unique
 pub mod Arrays
 pub mod Updates
 pub mod Stores
+pub mod Overlays

@@ -5,3 +5,9 @@ pub mod Promise
 pub mod Runs
 pub mod LineLaws
 pub mod ReaderLaws
+pub mod Code
+pub mod CodeLaws
+pub mod TextLaws
+pub mod RowLaws
+pub mod KeptLaws
+pub mod ReadLaws
