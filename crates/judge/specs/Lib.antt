@@ -11,3 +11,15 @@ pub mod Promise
 pub mod FaultLaws
 pub mod Demand2
 pub mod OnBytes
+pub mod Code
+pub mod BoxLaws
+pub mod Joins
+pub mod Touched
+pub mod LastMarks
+pub mod WordMarks
+pub mod Marking
+pub mod Searches
+pub mod Buffers
+pub mod MarkSteps
+pub mod FaultSteps
+pub mod JudgeSteps

@@ -1,4 +1,17 @@
 // The judge of a board file against the rows of a channel.
+ghost use mathlib.Core.Path.{_≡_};
+ghost use Prim.Native.Nat.{_+_, _*_, _<_};
+ghost use lib.ListN.{length};
+ghost use Rattle.boardfile.specs.Open.{fileLayout};
+ghost use Rattle.judge.specs.Finding.{finding};
+ghost use Rattle.judge.specs.Answers.{judged};
+ghost use Rattle.judge.specs.Code.{Judged};
+ghost use Rattle.judge.specs.JudgeSteps.{WordsRead, PiecesReady};
+
+mod boxes;
+mod classes;
+mod faults;
+
 use refusal::Refusal;
 
 // What is wrong with a board, each with its place.
@@ -17,4 +30,65 @@ pub enum JudgeAnswer {
     Good(u32),
     Faulty(Fault),
     Refused(Refusal),
+}
+
+// The words of the file's pieces, at the front of `words`.
+fn read_words(board: &[u8], count: usize, words: &mut [u32; 4096])
+    requires { ⌜ (length (now board) ≡ 4 + 4 * count) × (count < 4096) × (length (now words) ≡ 4096) ⌝ }
+    ensures { λ _. ⌜ WordsRead (now (board .entry)) count (now (words .exit)) ⌝ }
+{
+    let mut i: usize = 0;
+    while i < count {
+        words[i] = boardfile::word_at(board, 4 + 4 * i);
+        i += 1;
+    }
+}
+
+// Judges the pieces of a board that opens and has the rows' width.
+fn judge_pieces(
+    top: &[u32],
+    bot: &[u32],
+    board: &[u8],
+    tracks: u32,
+    count: usize,
+    scratch: &mut [u32],
+) -> JudgeAnswer
+    requires { ⌜ PiecesReady (record { top = now top; bot = now bot }) (now board) tracks count (now scratch) ⌝ }
+    ensures { λ r.
+        ⌜ r ≡ judged tracks (finding (record { top = now (top .entry); bot = now (bot .entry) }) (fileLayout (now (board .entry)))) ⌝ }
+{
+    let mut words = [0u32; 4096];
+    read_words(board, count, &mut words);
+    classes::mark_classes(top, bot, tracks, &words, count, scratch);
+    match faults::find_fault(top, bot, scratch, count) {
+        faults::Found::Nothing => JudgeAnswer::Good(tracks),
+        faults::Found::Fault(fault) => JudgeAnswer::Faulty(fault),
+    }
+}
+
+// Judges a board file of any bytes against rows of any lengths and numbers, tangled channels included. Scratch, of at least 10,238 numbers, may hold
+// anything afterwards, at its old length. At worst each piece is compared with all before it.
+pub fn judge(top: &[u32], bot: &[u32], board: &[u8], scratch: &mut [u32]) -> JudgeAnswer
+    ensures { λ r.
+        ⌜ Judged (record { top = now (top .entry); bot = now (bot .entry) }) (now (board .entry)) (now (scratch .entry)) r (now (scratch .exit)) ⌝ }
+{
+    if scratch.len() < 10238 {
+        return JudgeAnswer::Refused(Refusal::ShortTray(10238));
+    }
+    match channel::check(top, bot) {
+        channel::RowsAnswer::Refused(refusal) => JudgeAnswer::Refused(refusal),
+        channel::RowsAnswer::Accepted => match boardfile::open(board) {
+            boardfile::OpenAnswer::Refused(refusal) => JudgeAnswer::Refused(refusal),
+            boardfile::OpenAnswer::Board {
+                width,
+                tracks,
+                count,
+            } => {
+                if width as usize != top.len() {
+                    return JudgeAnswer::Refused(Refusal::WrongBoard(width as usize));
+                }
+                judge_pieces(top, bot, board, tracks, count as usize, scratch)
+            }
+        },
+    }
 }
