@@ -16,6 +16,7 @@ use Rattle.channel.specs.Answers.{Escapes}
 use Rattle.channel.specs.SpanLaws.{nets-rising}
 use Rattle.leftedge.specs.Items.{Place, trackOf}
 use Rattle.drawing.specs.Draw.{drawColumn, drawSpan, drawStraight, drawNet, draw}
+use Rattle.drawing.specs.Code.{netPieces}
 
 module _ (ch : Channel) where
   few-nets : length (nets ch) ≤ highestNet
@@ -29,20 +30,23 @@ module _ (ch : Channel) where
       let h = count-both-ways (λ n c. eqb (at (ch .top) c) n || eqb (at (ch .bot) c) n) 2 (nets ch) (λ c. at-most-two (at (ch .top) c) (at (ch .bot) c) (nets ch) (nets-rising ch)) (upTo (width ch)) in
       omega (arith, length-from 1 (width ch))
 
-  net-draws : (t : ℕ) (ps : List Place) (n : ℕ) → length (drawNet ch t ps n) ≤ 1 + 2 * length (pinColumns ch n)
-  unfolding drawNet drawSpan drawStraight drawColumn
-  net-draws t ps n = go (hasSpan ch n)
+  net-draws : (t k n : ℕ) → length (netPieces ch t k n) ≤ 1 + 2 * length (pinColumns ch n)
+  unfolding netPieces drawSpan drawStraight drawColumn
+  net-draws t k n = go (hasSpan ch n)
     where
-      go : (b : Bool) → length (cond b (drawSpan ch t (trackOf ps n) n) (drawStraight ch t n)) ≤ 1 + 2 * length (pinColumns ch n)
-      go true = omega (arith, length-each 2 (drawColumn ch t (trackOf ps n) n) (pinColumns ch n) (λ c. refl))
+      go : (b : Bool) → length (cond b (drawSpan ch t k n) (drawStraight ch t n)) ≤ 1 + 2 * length (pinColumns ch n)
+      go true = omega (arith, length-each 2 (drawColumn ch t k n) (pinColumns ch n) (λ c. refl))
       go false = omega arith
 
--- 511 trunks, and two pieces for each of 1,024 pin columns
-pub drawn-pieces : (ch : Channel) (t : ℕ) (ps : List Place) → Escapes ch → length (draw ch t ps .pieces) ≤ 2559
-unfolding draw
-drawn-pieces ch t ps esc =
-    let all = length-each-most 2 (drawNet ch t ps) (pinColumns ch) (nets ch) (net-draws ch t ps) in
+-- 511 trunks, and two pieces for each of 1,024 pin columns; whichever tracks the trunks lie on
+pub few-pieces : (ch : Channel) (t : ℕ) (track : ℕ → ℕ) → Escapes ch → length (each (λ n. netPieces ch t (track n) n) (nets ch)) ≤ 2559
+few-pieces ch t track esc =
+    let all = length-each-most 2 (λ n. netPieces ch t (track n) n) (pinColumns ch) (nets ch) (λ n. net-draws ch t (track n) n) in
     let a = few-nets ch in
     let b = few-columns ch in
     let c = esc .narrow in
     omega arith
+
+pub drawn-pieces : (ch : Channel) (t : ℕ) (ps : List Place) → Escapes ch → length (draw ch t ps .pieces) ≤ 2559
+unfolding draw drawNet netPieces
+drawn-pieces ch t ps esc = few-pieces ch t (trackOf ps) esc

@@ -1,1 +1,182 @@
-// The pieces of a filled channel. See specs/.
+// The pieces of a filled channel, straight into a board file.
+ghost use mathlib.Core.Path.{_≡_};
+ghost use Prim.Native.Nat.{ℕ, _+_, _*_, _≤_, _<_};
+ghost use mathlib.Core.List.{[], _∷_};
+ghost use mathlib.Core.Bool.{cond};
+ghost use lib.ListN.{length};
+ghost use lib.Dec.{eqb};
+ghost use Rattle.lists.specs.Lists.{overlay};
+ghost use Rattle.grid.specs.Pieces.{row};
+ghost use Rattle.channel.specs.Channel.{width};
+ghost use Rattle.channel.specs.Spans.{firsts, lasts};
+ghost use Rattle.boardfile.specs.Encode.{encode};
+ghost use Rattle.drawing.specs.Draw.{drawColumn, drawSpan};
+ghost use Rattle.drawing.specs.Putting.{Room, Put};
+ghost use Rattle.drawing.specs.Code.{Tracked, StandsIn, hasPin, netPieces, drawnBy};
+use grid::Column;
+use grid::Net;
+use grid::Piece;
+use grid::Row;
+use grid::Track;
+
+// Puts a piece behind the first `count` pieces of a board; answers how many there are then.
+fn put(board: &mut [u8], count: u32, piece: Piece) -> u32
+    requires { ⌜ Room (now board) count (piece ∷ []) ⌝ }
+    ensures { λ r. ⌜ Put (now (board .entry)) (now (board .exit)) count r (piece ∷ []) ⌝ }
+{
+    boardfile::put_piece(board, 4 + 4 * count as usize, piece);
+    count + 1
+}
+
+// Column c has a pin of net n.
+fn has_pin(top: &[u32], bot: &[u32], n: Net, c: Column) -> bool
+    requires { ⌜ (1 ≤ c .0) × (c .0 ≤ length (now top)) × (length (now bot) ≡ length (now top)) ⌝ }
+    ensures { λ r. ⌜ r ≡ hasPin (record { top = now (top .entry); bot = now (bot .entry) }) (n .0) (c .0) ⌝ }
+{
+    let i = c.0 as usize - 1;
+    (top[i] == n.0) | (bot[i] == n.0)
+}
+
+// The row where a branch of net n ends on a pin's side: the pin's row if the pin is of net n, else the track.
+fn end_row(pin: u32, n: Net, edge: u32, k: Track) -> Row
+    ensures { λ r. ⌜ r ≡ row (cond (eqb pin (n .0)) edge (k .0)) ⌝ }
+{
+    if pin == n.0 { Row(edge) } else { Row(k.0) }
+}
+
+// The branch and the contact of net n in its pin column c, where its trunk lies on track k of t.
+fn draw_column(
+    board: &mut [u8],
+    count: u32,
+    top: &[u32],
+    bot: &[u32],
+    n: Net,
+    k: Track,
+    t: u32,
+    c: Column,
+) -> u32
+    requires { ⌜ (t ≤ 511) × (1 ≤ c .0) × (c .0 ≤ length (now top)) × (length (now bot) ≡ length (now top)) × Room (now board) count (drawColumn (record { top = now top; bot = now bot }) t (k .0) (n .0) (c .0)) ⌝ }
+    ensures { λ r. ⌜ Put (now (board .entry)) (now (board .exit)) count r (drawColumn (record { top = now (top .entry); bot = now (bot .entry) }) t (k .0) (n .0) (c .0)) ⌝ }
+{
+    let i = c.0 as usize - 1;
+    let low = end_row(bot[i], n, 0, k);
+    let high = end_row(top[i], n, t + 1, k);
+    let branch = put(
+        board,
+        count,
+        Piece::Branch {
+            column: c,
+            low,
+            high,
+        },
+    );
+    put(
+        board,
+        branch,
+        Piece::Contact {
+            column: c,
+            track: k,
+        },
+    )
+}
+
+// The trunk of net n from its first to its last column, then its branches and contacts, left to right.
+fn draw_span(
+    board: &mut [u8],
+    count: u32,
+    top: &[u32],
+    bot: &[u32],
+    n: Net,
+    k: Track,
+    t: u32,
+    first: Column,
+    last: Column,
+) -> u32
+    requires { ⌜ (t ≤ 511) × StandsIn (record { top = now top; bot = now bot }) (n .0) (first .0) (last .0) × Room (now board) count (drawSpan (record { top = now top; bot = now bot }) t (k .0) (n .0)) ⌝ }
+    ensures { λ r. ⌜ Put (now (board .entry)) (now (board .exit)) count r (drawSpan (record { top = now (top .entry); bot = now (bot .entry) }) t (k .0) (n .0)) ⌝ }
+{
+    let mut drawn = put(
+        board,
+        count,
+        Piece::Trunk {
+            track: k,
+            first,
+            last,
+        },
+    );
+    let mut c = first.0;
+    while c <= last.0 {
+        if has_pin(top, bot, n, Column(c)) {
+            drawn = draw_column(board, drawn, top, bot, n, k, t, Column(c));
+        }
+        c += 1;
+    }
+    drawn
+}
+
+// The pieces of net n: a straight net is one branch over all rows.
+fn draw_net(
+    board: &mut [u8],
+    count: u32,
+    top: &[u32],
+    bot: &[u32],
+    n: Net,
+    k: Track,
+    t: u32,
+    first: Column,
+    last: Column,
+) -> u32
+    requires { ⌜ (t ≤ 511) × StandsIn (record { top = now top; bot = now bot }) (n .0) (first .0) (last .0) × Room (now board) count (netPieces (record { top = now top; bot = now bot }) t (k .0) (n .0)) ⌝ }
+    ensures { λ r. ⌜ Put (now (board .entry)) (now (board .exit)) count r (netPieces (record { top = now (top .entry); bot = now (bot .entry) }) t (k .0) (n .0)) ⌝ }
+{
+    if first.0 < last.0 {
+        return draw_span(board, count, top, bot, n, k, t, first, last);
+    }
+    put(
+        board,
+        count,
+        Piece::Branch {
+            column: first,
+            low: Row(0),
+            high: Row(t + 1),
+        },
+    )
+}
+
+// Draws a filled channel into a lent board of at least 10,240 bytes, header first, nets in rising number; the remainder stays. Answers the
+// number of pieces. `first` and `last` are the nets' columns, `tracks` their tracks, t the number of tracks.
+pub fn draw_board(
+    top: &[u32],
+    bot: &[u32],
+    first: &[u32; 512],
+    last: &[u32; 512],
+    tracks: &[u32; 512],
+    t: u32,
+    board: &mut [u8],
+) -> u32
+    requires { ⌜ Tracked (record { top = now top; bot = now bot }) (now tracks) t × (now first ≡ firsts (record { top = now top; bot = now bot })) × (now last ≡ lasts (record { top = now top; bot = now bot })) × (10240 ≤ length (now board)) ⌝ }
+    ensures { λ r.
+        ⌜ (r ≡ length (drawnBy (record { top = now (top .entry); bot = now (bot .entry) }) (now (tracks .entry)) t .pieces)) × (now (board .exit) ≡ overlay (encode (width (record { top = now (top .entry); bot = now (bot .entry) })) (drawnBy (record { top = now (top .entry); bot = now (bot .entry) }) (now (tracks .entry)) t)) (now (board .entry))) ⌝ }
+{
+    let mut count: u32 = 0;
+    let mut n: u32 = 1;
+    while n < 512 {
+        let i = n as usize;
+        if first[i] != 0 {
+            count = draw_net(
+                board,
+                count,
+                top,
+                bot,
+                Net(n),
+                Track(tracks[i]),
+                t,
+                Column(first[i]),
+                Column(last[i]),
+            );
+        }
+        n += 1;
+    }
+    boardfile::put_header(board, top.len() as u32, t, count);
+    count
+}

@@ -6,11 +6,9 @@ use mathlib.Core.Logic.{_↔_}
 use mathlib.Core.Option.{none}
 use lib.ListN.{length, take}
 use Rattle.refusal.specs.declared.Refusal.the-variants as refusal
-use Rattle.refusal.specs.Trays.{Tray, ringTray, boardTray}
 use Rattle.channel.specs.Channel.{Channel, width, nets}
 use Rattle.channel.specs.Density.{density}
 use Rattle.channel.specs.Constraints.{chain, Step, Ring, Tangled, Unconstrained}
-use Rattle.channel.specs.Answers.{Escapes}
 use Rattle.wiring.specs.Layouts.{Good, OneTrunkEach}
 use Rattle.leftedge.specs.Walk.{ringNumbers}
 use Rattle.leftedge.specs.Nets.{fill}

@@ -1,15 +1,14 @@
 -- The equations of Route give the promise: the chain of refusals is silent up to 7 for a channel that escapes, and then it is demand 3.
-use Prim.Native.Nat.{ℕ, _+_, _*_, _≤_, _<_}
+use Prim.Native.Nat.{ℕ, _+_, _*_}
 use native.Mathlib.Omega.{arith}
 use mathlib.Core.Path.{_≡_, refl, sym, _∙_, ap, subst, subst⁻¹}
-use mathlib.Core.List.{List, [], _∷_, _++_}
+use mathlib.Core.List.{List, [], _∷_}
 use mathlib.Core.Logic.{_↔_, _⊎_, inl, inr, ⊎-elim}
-use mathlib.Core.Option.{Option, none, some}
+use mathlib.Core.Option.{none}
 use lib.ListN.{length, take, drop}
 use lib.Seq.{take-at}
 use Rattle.lists.specs.Lists.{overlay}
 use Rattle.lists.specs.Ranges.{length-each}
-use Rattle.refusal.specs.declared.Refusal.{Refusal}
 use Rattle.refusal.specs.declared.Refusal.the-variants as refusal
 use Rattle.refusal.specs.Refusals.{_or-else_, answered, filledUnless}
 use Rattle.refusal.specs.ChainLaws.{none-or-else-later}
@@ -24,11 +23,11 @@ use Rattle.leftedge.specs.Fill.{Filling, filled, stuck}
 use Rattle.leftedge.specs.Walk.{ringOf, ringNumbers}
 use Rattle.leftedge.specs.Nets.{netItems, fill}
 use Rattle.boardfile.specs.Encode.{encode}
-use Rattle.boardfile.specs.Open.{openRefusal, fileWidth, fileTracks, fileCount, fileLayout}
+use Rattle.boardfile.specs.Open.{fileLayout}
 use Rattle.boardfile.specs.FieldLaws.{opened-length}
 use Rattle.boardfile.specs.RoundTrip.{encoded-length}
 use Rattle.drawing.specs.Draw.{draw}
-use Rattle.promises.specs.Router.{Refused, NoLayout, Fewest, RouterPromise}
+use Rattle.promises.specs.Router.{Refused, RouterPromise}
 use Rattle.promises.specs.Proved.{demand3}
 use Rattle.router.specs.declared.RouteAnswer.{RouteAnswer}
 use Rattle.router.specs.declared.RouteAnswer.the-variants as route
@@ -47,19 +46,19 @@ module _ (trays : List Tray) (ch : Channel) (room : shortTray trays ≡ none) (e
   only-tangled = none-or-else-later (shortTray trays) (rowsRefusal ch or-else tangled ch (fill ch)) room ∙ none-or-else-later (rowsRefusal ch) (tangled ch (fill ch)) (accepted-exactly ch .1 esc)
 
   -- the answer, ring and board by the end of the fill
-  stuck-answer : (left : List ℕ) → fill ch ≡ stuck left → routeAnswer trays ch ≡ route.Refused (refusal.Tangled (length (ringOf (netItems ch) left)))
+  pub stuck-answer : (left : List ℕ) → fill ch ≡ stuck left → routeAnswer trays ch ≡ route.Refused (refusal.Tangled (length (ringOf (netItems ch) left)))
   unfolding routeAnswer answered tangled ringShown
   stuck-answer left e = rw (only-tangled, e, tangled, answered)
 
-  filled-answer : (t : ℕ) (ps : List Place) → fill ch ≡ filled t ps → routeAnswer trays ch ≡ route.Routed t (length (draw ch t ps .pieces))
+  pub filled-answer : (t : ℕ) (ps : List Place) → fill ch ≡ filled t ps → routeAnswer trays ch ≡ route.Routed t (length (draw ch t ps .pieces))
   unfolding routeAnswer answered tangled layoutDrawn draw
   filled-answer t ps e = rw (only-tangled, e, tangled, answered, layoutDrawn)
 
-  stuck-ring : (left ring : List ℕ) → fill ch ≡ stuck left → ringAfter trays ch ring ≡ overlay (ringNumbers (ringOf (netItems ch) left)) ring
+  pub stuck-ring : (left ring : List ℕ) → fill ch ≡ stuck left → ringAfter trays ch ring ≡ overlay (ringNumbers (ringOf (netItems ch) left)) ring
   unfolding ringAfter filledUnder7 tangled ringShown
   stuck-ring left ring e = rw (only-tangled, e, tangled, filledUnder7, ringShown)
 
-  filled-board : (t : ℕ) (ps : List Place) (board : List ℕ) → fill ch ≡ filled t ps → boardAfter trays ch board ≡ overlay (encode (width ch) (draw ch t ps)) board
+  pub filled-board : (t : ℕ) (ps : List Place) (board : List ℕ) → fill ch ≡ filled t ps → boardAfter trays ch board ≡ overlay (encode (width ch) (draw ch t ps)) board
   unfolding boardAfter filledUnless tangled layoutDrawn
   filled-board t ps board e = rw (only-tangled, e, tangled, filledUnless, layoutDrawn)
 

@@ -1,4 +1,18 @@
 // The router of a channel handed over as rows.
+ghost use mathlib.Core.Path.{_≡_};
+ghost use mathlib.Core.List.{[], _∷_, _++_};
+ghost use Prim.Native.Nat.{_+_, _≤_, _<_};
+ghost use lib.ListN.{length, take};
+ghost use Rattle.channel.specs.Answers.{Escapes};
+ghost use Rattle.router.specs.Code.{RouteDone};
+ghost use Rattle.router.specs.CodeLaws.{Held};
+ghost use Rattle.router.specs.Tables.{recordsBy, Listed};
+use channel::RowsAnswer;
+use grid::Column;
+use grid::Net;
+use grid::Track;
+use leftedge::NetRecord;
+use leftedge::Outcome;
 use refusal::Refusal;
 
 // What the router answers.
@@ -6,4 +20,127 @@ pub enum RouteAnswer {
     // a board of so many tracks and pieces
     Routed { tracks: u32, pieces: u32 },
     Refused(Refusal),
+}
+
+// The router's answer, with the net records at the front of a table: as many as `count` says, none under a refusal.
+pub struct Routing {
+    pub answer: RouteAnswer,
+    pub records: [NetRecord; 511],
+    pub count: usize,
+}
+
+// A table of net records, as many as `count` says.
+struct Table {
+    records: [NetRecord; 511],
+    count: usize,
+}
+
+// A table with no record.
+fn no_records() -> Table
+    ensures { λ r. ⌜ Listed [] (r .records) (r .count) ⌝ }
+{
+    let nobody = NetRecord {
+        number: Net(0),
+        first: Column(0),
+        last: Column(0),
+        track: Track(0),
+    };
+    Table {
+        records: [nobody; 511],
+        count: 0,
+    }
+}
+
+// The table with one record more.
+fn with_record(t: Table, r: NetRecord) -> Table
+    requires { ⌜ (t .count < 511) × (length (t .records) ≡ 511) ⌝ }
+    ensures { λ s.
+        ⌜ (s .count ≡ t .count + 1) × (length (s .records) ≡ 511) × (take (s .count) (s .records) ≡ take (t .count) (t .records) ++ (r ∷ [])) ⌝ }
+{
+    let mut next = t;
+    let at = next.count;
+    next.records[at] = r;
+    next.count = at + 1;
+    next
+}
+
+// The record of each number that has a first column, in rising number.
+fn make_records(first: &[u32; 512], last: &[u32; 512], tracks: &[u32; 512]) -> Table
+    ensures { λ r. ⌜ Listed (recordsBy (now (first .entry)) (now (last .entry)) (now (tracks .entry))) (r .records) (r .count) ⌝ }
+{
+    let mut table = no_records();
+    let mut n: usize = 0;
+    while n < 511 {
+        n += 1;
+        if first[n] != 0 {
+            table = with_record(
+                table,
+                NetRecord {
+                    number: Net(n as u32),
+                    first: Column(first[n]),
+                    last: Column(last[n]),
+                    track: Track(tracks[n]),
+                },
+            );
+        }
+    }
+    table
+}
+
+// The answer of a refusal.
+fn refused(refusal: Refusal) -> Routing
+    ensures { λ r. ⌜ (r .answer ≡ RouteAnswer.Refused refusal) × (r .count ≡ 0) ⌝ }
+{
+    let table = no_records();
+    let records = table.records;
+    Routing {
+        answer: RouteAnswer::Refused(refusal),
+        records,
+        count: 0,
+    }
+}
+
+// Routes a channel that escapes refusals 3 to 6, with the buffers that it needs.
+fn route_checked(top: &[u32], bot: &[u32], ring: &mut [u32], board: &mut [u8]) -> Routing
+    requires { ⌜ Escapes (record { top = now top; bot = now bot }) × (1022 ≤ length (now ring)) × (10240 ≤ length (now board)) ⌝ }
+    ensures { λ r.
+        ⌜ Held (record { top = now (top .entry); bot = now (bot .entry) }) (now (ring .entry)) (now (board .entry)) r (now (ring .exit)) (now (board .exit)) ⌝ }
+{
+    let spans = channel::find_spans(top, bot);
+    let first = spans.first;
+    let last = spans.last;
+    let filled = leftedge::fill_tracks(top, bot, &first, &last, ring);
+    let outcome = filled.outcome;
+    let tracks = filled.tracks;
+    match outcome {
+        Outcome::Stuck(pairs) => refused(Refusal::Tangled(pairs as usize)),
+        Outcome::Placed(t) => {
+            let pieces = drawing::draw_board(top, bot, &first, &last, &tracks, t, board);
+            let table = make_records(&first, &last, &tracks);
+            let records = table.records;
+            Routing {
+                answer: RouteAnswer::Routed { tracks: t, pieces },
+                records,
+                count: table.count,
+            }
+        }
+    }
+}
+
+// Routes rows of any lengths and numbers: refusals 1 and 3 to 7, in rising number. On success the front of `board` is the board file; under 7 the
+// front of `ring` is the ring's pairs; everything else that is lent stays as it was.
+pub fn route(top: &[u32], bot: &[u32], ring: &mut [u32], board: &mut [u8]) -> Routing
+    ensures { λ r.
+        ⌜ RouteDone (record { top = now (top .entry); bot = now (bot .entry) }) (now (ring .entry)) (now (board .entry)) r (now (ring .exit)) (now (board .exit)) ⌝ }
+{
+    if ring.len() < 1022 {
+        return refused(Refusal::ShortTray(1022));
+    }
+    if board.len() < 10240 {
+        return refused(Refusal::ShortTray(10240));
+    }
+    match channel::check(top, bot) {
+        RowsAnswer::Refused(refusal) => refused(refusal),
+        RowsAnswer::Accepted => route_checked(top, bot, ring, board),
+    }
 }

@@ -1,0 +1,43 @@
+-- `has_pin` meets its contract: column c, counted from 1, is place c - 1 of each row.
+use native.Mathlib.Omega.{arith}
+use mathlib.Core.Path.{sym}
+use denote.Ref.{now}
+use borrow.Author.Needs.{needs}
+use Rattle.drawing.specs.CodeLaws.{has-pin-array}
+use Rattle.drawing.proofs.has_pin.Statement.{statement}
+use Rattle.drawing.proofs.has_pin.Tie as tie
+
+cast-i : tie.Need-cast-i
+cast-i c = search needs
+
+sub-i : tie.Need-sub-i
+sub-i c = search needs
+
+mul-result : tie.Need-mul-result
+mul-result c = search needs
+
+shared-slice-read-result : tie.Need-shared-slice-read-result
+shared-slice-read-result c = search needs
+
+mul-result-2 : tie.Need-mul-result-2
+mul-result-2 c = search needs
+
+shared-slice-read-result-2 : tie.Need-shared-slice-read-result-2
+shared-slice-read-result-2 c = search needs
+
+returns : tie.Need-returns
+returns c =
+    let a = c .before .before .before .before .before .args in
+    sym (has-pin-array (record { top = now (a .top); bot = now (a .bot) }) (a .n .0) (a .c .0) (omega arith))
+
+pub has-pin-spec : {M : Type 1} → statement M
+has-pin-spec =
+    tie.close
+    (tie.spec
+    cast-i
+    sub-i
+    mul-result
+    shared-slice-read-result
+    mul-result-2
+    shared-slice-read-result-2
+    returns)

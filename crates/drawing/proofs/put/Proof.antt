@@ -1,0 +1,36 @@
+-- `put` meets its contract: `put_piece` leaves the piece's word behind the others, for which `Room` has the place.
+use native.Mathlib.Omega.{arith}
+use mathlib.Core.Path.{refl}
+use mathlib.Core.List.{List·Memᴰ·head}
+use denote.Ref.{now}
+use borrow.Author.Needs.{needs}
+use Rattle.drawing.specs.Putting.{put-one}
+use Rattle.drawing.proofs.put.Statement.{statement}
+use Rattle.drawing.proofs.put.Tie as tie
+
+mul-put-piece : tie.Need-mul-put-piece
+mul-put-piece c = search needs
+
+add-put-piece : tie.Need-add-put-piece
+add-put-piece c = search needs
+
+put-piece-requires : tie.Need-put-piece-requires
+put-piece-requires c κs =
+    let r = c .before .before .pre in
+    (omega arith, r .small (c .before .before .args .piece) (List·Memᴰ·head refl))
+
+add-result : tie.Need-add-result
+add-result c = search needs
+
+same-length : tie.Need-same-length
+same-length c = search needs
+
+returns : tie.Need-returns
+returns c =
+    let a = c .before .before .before .before .before .args in
+    put-one (now (a .board)) _ (a .count) (a .piece) (c .before .before .put-piece .ensures)
+
+pub put-spec : {M : Type 1} → statement M
+put-spec =
+    tie.close
+    (tie.spec mul-put-piece add-put-piece put-piece-requires add-result same-length returns)

@@ -1,0 +1,112 @@
+-- The equations of `route` in each of its cases, and the promise from the equations.
+use Prim.Native.Nat.{ℕ, _≤_, _<_}
+use native.Mathlib.Omega.{arith}
+use mathlib.Core.Path.{_≡_, sym, _∙_, ap, subst⁻¹}
+use mathlib.Core.List.{List, [], List·Memᴰ·cases-cons, List·Memᴰ·not-nil}
+use mathlib.Core.Logic.{⊎-elim}
+use mathlib.Core.Option.{none, some}
+use lib.ListN.{length, take}
+use lib.Dec.{ltb, eqb, ltb→lt, lt→ltb, eqb→eq}
+use Rattle.lists.specs.Lists.{keep, overlay}
+use Rattle.lists.specs.Tests.{T→true, fails→false}
+use Rattle.refusal.specs.declared.Refusal.{Refusal}
+use Rattle.refusal.specs.declared.Refusal.the-variants as refusal
+use Rattle.refusal.specs.Refusals.{numberOf, refuseAtFirst, _or-else_, answered, filledUnless}
+use Rattle.refusal.specs.ChainLaws.{some-or-else, none-or-else-later}
+use Rattle.refusal.specs.Trays.{Tray, ringTray, boardTray, shortTray}
+use Rattle.refusal.specs.TrayLaws.{trays-fit}
+use Rattle.channel.specs.Channel.{Channel, width}
+use Rattle.channel.specs.Answers.{Escapes, rowsRefusal}
+use Rattle.leftedge.specs.Items.{Place}
+use Rattle.leftedge.specs.Fill.{filled, stuck}
+use Rattle.leftedge.specs.Walk.{ringOf, ringNumbers}
+use Rattle.leftedge.specs.Nets.{netItems, fill, records}
+use Rattle.boardfile.specs.Encode.{encode}
+use Rattle.drawing.specs.Draw.{draw}
+use Rattle.router.specs.declared.Routing.{Routing}
+use Rattle.router.specs.declared.RouteAnswer.{RouteAnswer}
+use Rattle.router.specs.declared.RouteAnswer.the-variants as route
+use Rattle.router.specs.Route.{tangled, recordsMade, routeTrays, routeRefusal, routeAnswer, boardAfter, ringAfter, filledUnder7}
+use Rattle.router.specs.Contract.{RoutePromise}
+use Rattle.router.specs.ContractLaws.{only-tangled, stuck-answer, filled-answer, stuck-ring, filled-board, route-promise}
+use Rattle.router.specs.Code.{recordsUnless, RouteDone}
+
+-- both buffers are long enough
+pub room : (ring board : ℕ) → ringTray ≤ ring → boardTray ≤ board → shortTray (routeTrays ring board) ≡ none
+room ring board hr hb =
+    trays-fit (routeTrays ring board) .1 (λ b m.
+    ⊎-elim (λ e. subst⁻¹ (λ (t : Tray). t .needed ≤ t .lent) e hr) (λ k. ⊎-elim (λ e. subst⁻¹ (λ (t : Tray). t .needed ≤ t .lent) e hb) (λ z. absurd (List·Memᴰ·not-nil z)) (List·Memᴰ·cases-cons k)) (List·Memᴰ·cases-cons m))
+
+-- the first buffer that is too short is refused
+short-first : (ring board : List ℕ) → length ring < ringTray → shortTray (routeTrays (length ring) (length board)) ≡ some (refusal.ShortTray ringTray)
+unfolding shortTray keep refuseAtFirst
+short-first ring board h = rw (T→true (ltb (length ring) ringTray) (lt→ltb (length ring) ringTray h))
+
+short-second : (ring board : List ℕ) → ringTray ≤ length ring → length board < boardTray → shortTray (routeTrays (length ring) (length board)) ≡ some (refusal.ShortTray boardTray)
+unfolding shortTray keep refuseAtFirst
+short-second ring board hr h =
+    rw (fails→false (ltb (length ring) ringTray) (λ t. let k = ltb→lt (length ring) ringTray t in omega arith), T→true (ltb (length board) boardTray) (lt→ltb (length board) boardTray h))
+
+-- the equations alone, for a refusal r that the chain gives or for none
+pub record Held (ch : Channel) (ring board : List ℕ) (r : Routing) (ring′ board′ : List ℕ) : Type 0 where
+  pub answer : r .answer ≡ routeAnswer (routeTrays (length ring) (length board)) ch
+  pub counted : r .count ≡ length (recordsUnless (routeRefusal (routeTrays (length ring) (length board)) ch) (recordsMade ch (fill ch)))
+  pub table : take (r .count) (r .records) ≡ recordsUnless (routeRefusal (routeTrays (length ring) (length board)) ch) (recordsMade ch (fill ch))
+  pub ringHeld : ring′ ≡ ringAfter (routeTrays (length ring) (length board)) ch ring
+  pub boardHeld : board′ ≡ boardAfter (routeTrays (length ring) (length board)) ch board
+
+-- what is held by the equations keeps the promise
+pub held→done : {ch : Channel} {ring board : List ℕ} {r : Routing} {ring′ board′ : List ℕ} → Held ch ring board r ring′ board′ → RouteDone ch ring board r ring′ board′
+held→done {ch} {ring} {board} {r} {ring′} {board′} h = record { answer = h .answer; counted = h .counted; table = h .table; ringHeld = h .ringHeld; boardHeld = h .boardHeld; promise = promise }
+  where
+    trays : List Tray
+    trays = routeTrays (length ring) (length board)
+
+    promise : ringTray ≤ length ring → boardTray ≤ length board → Escapes ch → RoutePromise ch (r .answer) ring′ board′
+    promise hr hb esc =
+        subst⁻¹ (λ (a : RouteAnswer). RoutePromise ch a ring′ board′) (h .answer)
+        (subst⁻¹ (λ (x : List ℕ). RoutePromise ch (routeAnswer (routeTrays (length ring) (length board)) ch) x board′) (h .ringHeld)
+        (subst⁻¹ (λ (x : List ℕ). RoutePromise ch (routeAnswer (routeTrays (length ring) (length board)) ch) (ringAfter (routeTrays (length ring) (length board)) ch ring) x) (h .boardHeld)
+        (route-promise (routeTrays (length ring) (length board)) ch (room (length ring) (length board) hr hb) esc ring board)))
+
+-- a refusal other than 7: nothing is written, no record is answered
+pub refused-held : (ch : Channel) (ring board : List ℕ) (r : Routing) (q : Refusal) → routeRefusal (routeTrays (length ring) (length board)) ch ≡ some q → (numberOf q ≡ 7 → ⊥) → r .answer ≡ route.Refused q → r .count ≡ 0 → Held ch ring board r ring board
+unfolding routeAnswer answered recordsUnless ringAfter filledUnder7 boardAfter filledUnless
+refused-held ch ring board r q e other a n =
+    let none-made : recordsUnless (routeRefusal (routeTrays (length ring) (length board)) ch) (recordsMade ch (fill ch)) ≡ [] = rw (e, recordsUnless) in
+    record { answer = a ∙ sym (rw (e, answered)); counted = n ∙ sym (ap length none-made); table = ap (λ (k : ℕ). take k (r .records)) n ∙ sym none-made; ringHeld = sym (rw (e, filledUnder7, fails→false (eqb (numberOf q) 7) (λ t. other (eqb→eq (numberOf q) 7 t)))); boardHeld = sym (rw (e, filledUnless)) }
+
+module _ (ch : Channel) (ring board : List ℕ) where
+  abbrev trays : List Tray
+  trays = routeTrays (length ring) (length board)
+
+  -- 1, of either buffer; and of rows that are refused
+  pub short-ring : length ring < ringTray → routeRefusal trays ch ≡ some (refusal.ShortTray ringTray)
+  unfolding routeRefusal
+  short-ring h = some-or-else (shortTray trays) (rowsRefusal ch or-else tangled ch (fill ch)) (refusal.ShortTray ringTray) (short-first ring board h)
+
+  pub short-board : ringTray ≤ length ring → length board < boardTray → routeRefusal trays ch ≡ some (refusal.ShortTray boardTray)
+  unfolding routeRefusal
+  short-board hr h = some-or-else (shortTray trays) (rowsRefusal ch or-else tangled ch (fill ch)) (refusal.ShortTray boardTray) (short-second ring board hr h)
+
+  module _ (hr : ringTray ≤ length ring) (hb : boardTray ≤ length board) where
+    pub rows-refused : (q : Refusal) → rowsRefusal ch ≡ some q → routeRefusal trays ch ≡ some q
+    unfolding routeRefusal
+    rows-refused q e = none-or-else-later (shortTray trays) (rowsRefusal ch or-else tangled ch (fill ch)) (room (length ring) (length board) hr hb) ∙ some-or-else (rowsRefusal ch) (tangled ch (fill ch)) q e
+
+    module _ (esc : Escapes ch) where
+      -- stuck: the ring alone is written
+      pub stuck-held : (r : Routing) (left ring′ : List ℕ) → fill ch ≡ stuck left → r .answer ≡ route.Refused (refusal.Tangled (length (ringOf (netItems ch) left))) → r .count ≡ 0 → ring′ ≡ overlay (ringNumbers (ringOf (netItems ch) left)) ring → Held ch ring board r ring′ board
+      unfolding recordsUnless boardAfter filledUnless tangled
+      stuck-held r left ring′ e a n h =
+          let only = only-tangled trays ch (room (length ring) (length board) hr hb) esc in
+          let none-made : recordsUnless (routeRefusal trays ch) (recordsMade ch (fill ch)) ≡ [] = rw (only, e, tangled, recordsUnless) in
+          record { answer = a ∙ sym (stuck-answer trays ch (room (length ring) (length board) hr hb) esc left e); counted = n ∙ sym (ap length none-made); table = ap (λ (k : ℕ). take k (r .records)) n ∙ sym none-made; ringHeld = h ∙ sym (stuck-ring trays ch (room (length ring) (length board) hr hb) esc left ring e); boardHeld = sym (rw (only, e, tangled, filledUnless)) }
+
+      -- filled: the board is written, and the records are answered
+      pub filled-held : (r : Routing) (t : ℕ) (ps : List Place) (board′ : List ℕ) → fill ch ≡ filled t ps → r .answer ≡ route.Routed t (length (draw ch t ps .pieces)) → r .count ≡ length (records ch ps) → take (r .count) (r .records) ≡ records ch ps → board′ ≡ overlay (encode (width ch) (draw ch t ps)) board → Held ch ring board r ring board′
+      unfolding recordsUnless ringAfter filledUnder7 tangled recordsMade
+      filled-held r t ps board′ e a n tab h =
+          let only = only-tangled trays ch (room (length ring) (length board) hr hb) esc in
+          let made : recordsUnless (routeRefusal trays ch) (recordsMade ch (fill ch)) ≡ records ch ps = rw (only, e, tangled, recordsUnless, recordsMade) in
+          record { answer = a ∙ sym (filled-answer trays ch (room (length ring) (length board) hr hb) esc t ps e); counted = n ∙ sym (ap length made); table = tab ∙ sym made; ringHeld = sym (rw (only, e, tangled, filledUnder7)); boardHeld = h ∙ sym (filled-board trays ch (room (length ring) (length board) hr hb) esc t ps board e) }
