@@ -1,0 +1,4 @@
+pub mod Numbers
+pub mod Code
+pub mod NumberLaws
+pub mod CodeLaws

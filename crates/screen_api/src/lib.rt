@@ -1,0 +1,108 @@
+// The entries that a C program calls. Each answers one number: 0 in the upper 32 bits and the value in the lower, or the number of a refusal or fault in
+// the upper and its place in the lower; a place over 4,294,967,295 is shown as that. screen/channel.h documents them for C.
+ghost use mathlib.Core.Path.{_≡_};
+ghost use Prim.Native.Nat.{_≤_};
+ghost use Rattle.channel.specs.Answers.{boundsAnswer};
+ghost use Rattle.blanks.specs.Stock.{blankAnswer};
+ghost use Rattle.judge.specs.Answers.{faultNumber, faultPlace};
+ghost use Rattle.screen_api.specs.Numbers.{boundsNumber, blankNumber, numbered, refusalNumber};
+ghost use Rattle.screen_api.specs.Code.{ReadEntry, RouteEntry, JudgeEntry};
+use blanks::BlankAnswer;
+use channel::BoundsAnswer;
+use judge::Fault;
+use judge::JudgeAnswer;
+use pinlist::ReadAnswer;
+use refusal::Refusal;
+use router::RouteAnswer;
+
+// A number of the table and its place, in one number.
+fn numbered_at(number: u32, place: usize) -> u64
+    requires { ⌜ number ≤ 14 ⌝ }
+    ensures { λ r. ⌜ r ≡ numbered number place ⌝ }
+{
+    let shown = if 4294967295 < place {
+        4294967295
+    } else {
+        place as u64
+    };
+    number as u64 * 4294967296 + shown
+}
+
+fn refused(refusal: Refusal) -> u64
+    ensures { λ r. ⌜ r ≡ refusalNumber refusal ⌝ }
+{
+    numbered_at(refusal::number_of(refusal), refusal::place_of(refusal))
+}
+
+// Reads a pin list into two rows of at least 512 numbers each: the width, or refusals 1 to 6.
+#[no_mangle]
+pub extern "C" fn cabjirt_read(text: &[u8], top: &mut [u32], bot: &mut [u32]) -> u64
+    ensures { λ r.
+        ⌜ ReadEntry (now (text .entry)) (now (top .entry)) (now (bot .entry)) r (now (top .exit)) (now (bot .exit)) ⌝ }
+{
+    match pinlist::read(text, top, bot) {
+        ReadAnswer::Width(w) => w as u64,
+        ReadAnswer::Refused(refusal) => refused(refusal),
+    }
+}
+
+// The bounds of rows: density times 65,536 plus chain, or refusals 3 to 6.
+#[no_mangle]
+pub extern "C" fn cabjirt_bounds(top: &[u32], bot: &[u32]) -> u64
+    ensures { λ r.
+        ⌜ r ≡ boundsNumber (boundsAnswer (record { top = now (top .entry); bot = now (bot .entry) })) ⌝ }
+{
+    match channel::bounds(top, bot) {
+        BoundsAnswer::Bounds { density, chain } => density as u64 * 65536 + chain as u64,
+        BoundsAnswer::Refused(refusal) => refused(refusal),
+    }
+}
+
+// Routes rows: pieces times 65,536 plus tracks, with the board file at the front of the board; or refusals 1 and 3 to 7, under 7 with the ring's pairs
+// at the front of the ring.
+#[no_mangle]
+pub extern "C" fn cabjirt_route(top: &[u32], bot: &[u32], ring: &mut [u32], board: &mut [u8]) -> u64
+    ensures { λ r.
+        ⌜ RouteEntry (record { top = now (top .entry); bot = now (bot .entry) }) (now (ring .entry)) (now (board .entry)) r (now (ring .exit)) (now (board .exit)) ⌝ }
+{
+    let routing = router::route(top, bot, ring, board);
+    let answer = routing.answer;
+    match answer {
+        RouteAnswer::Routed { tracks, pieces } => pieces as u64 * 65536 + tracks as u64,
+        RouteAnswer::Refused(refusal) => refused(refusal),
+    }
+}
+
+// Judges a board file against rows: its tracks if it is good; or refusals 1, 3 to 6, 8 to 10, or faults 11 to 13.
+#[no_mangle]
+pub extern "C" fn cabjirt_judge(top: &[u32], bot: &[u32], board: &[u8], scratch: &mut [u32]) -> u64
+    ensures { λ r.
+        ⌜ JudgeEntry (record { top = now (top .entry); bot = now (bot .entry) }) (now (board .entry)) (now (scratch .entry)) r (now (scratch .exit)) ⌝ }
+{
+    match judge::judge(top, bot, board, scratch) {
+        JudgeAnswer::Good(tracks) => tracks as u64,
+        JudgeAnswer::Faulty(fault) => faulty(fault),
+        JudgeAnswer::Refused(refusal) => refused(refusal),
+    }
+}
+
+fn faulty(fault: Fault) -> u64
+    ensures { λ r. ⌜ r ≡ numbered (faultNumber fault) (faultPlace fault) ⌝ }
+{
+    match fault {
+        Fault::Short(place) => numbered_at(11, place),
+        Fault::Open(place) => numbered_at(12, place),
+        Fault::Floating(piece) => numbered_at(13, piece),
+    }
+}
+
+// The smallest stock blank for a number of tracks, or refusal 14.
+#[no_mangle]
+pub extern "C" fn cabjirt_blank(tracks: u32) -> u64
+    ensures { λ r. ⌜ r ≡ blankNumber (blankAnswer tracks) ⌝ }
+{
+    match blanks::blank(tracks) {
+        BlankAnswer::Blank(held) => held as u64,
+        BlankAnswer::Refused(refusal) => refused(refusal),
+    }
+}

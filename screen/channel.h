@@ -1,0 +1,76 @@
+/* channel.h: the adapter board channel, for C programs.
+ *
+ * Every entry takes buffers as a pointer and a length, and answers one 64-bit number:
+ *
+ *     upper 32 bits 0     success; the lower 32 bits hold the value named below
+ *     upper 32 bits N     refusal or fault N of the shop's table; the lower 32 bits hold its place
+ *                         (a place over 4,294,967,295 is shown as 4,294,967,295)
+ *
+ * No entry asks anything of its buffers: one that is too short is refused (number 1, the length needed). A pointer may be NULL where its
+ * length is 0. A refusal changes nothing that was lent, except scratch and, under 7, the front of the ring. Buffers must not overlap.
+ *
+ * Rows hold one net number a column, 0 for no pin. Pin positions, where a place is one, are 1 to w for TOP and w + 1 to 2w for BOT.
+ *
+ *   No  word         place
+ *    1  short tray   the length needed
+ *    2  garbled      the length of the longest start that some pin list shares: the offset of the byte that does not belong
+ *    3  too wide     513
+ *    4  uneven       the shorter length plus 1
+ *    5  high net     the lowest pin position with a number over 511
+ *    6  lone pin     the lowest net with just one pin
+ *    7  tangled      the number of pairs (net, column) at the front of the ring
+ *    8  torn         the length due
+ *    9  bad field    0 for the header, else the number of the lowest bad piece
+ *   10  wrong board  the board file's width
+ *   11  short        the lowest pin position joined to an earlier pin of another net
+ *   12  open         the lowest pin position not joined to its net's first pin
+ *   13  floating     the number of the lowest piece joined to no pin
+ *   14  no blank     the tracks wanted
+ */
+#ifndef CABJIRT_CHANNEL_H
+#define CABJIRT_CHANNEL_H
+
+#include <stddef.h>
+#include <stdint.h>
+
+#ifdef __cplusplus
+extern "C" {
+#endif
+
+/* The lengths that refusal 1 asks for: numbers in a row, a ring and scratch, bytes in a board. */
+enum {
+    CABJIRT_ROW = 512,
+    CABJIRT_RING = 1022,
+    CABJIRT_BOARD = 10240,
+    CABJIRT_SCRATCH = 10238
+};
+
+/* The upper half of an answer: 0, or the number of a refusal or fault. */
+static inline uint32_t cabjirt_number(uint64_t answer) { return (uint32_t)(answer >> 32); }
+
+/* The lower half: the value, or the place. */
+static inline uint32_t cabjirt_value(uint64_t answer) { return (uint32_t)answer; }
+
+/* Reads a pin list. Value: the width w; the first w numbers of each row are the list's, the rest stay. Refusals 1 to 6. */
+uint64_t cabjirt_read(const uint8_t *text, size_t text_length, uint32_t *top, size_t top_length, uint32_t *bot,
+                      size_t bot_length);
+
+/* The bounds of a channel. Value: density * 65536 + chain; a tangled channel has chain 0. Refusals 3 to 6. */
+uint64_t cabjirt_bounds(const uint32_t *top, size_t top_length, const uint32_t *bot, size_t bot_length);
+
+/* Routes a channel. Value: pieces * 65536 + tracks; the first 4 + 4 * pieces bytes of the board are the board file, the rest stay. Refusals 1, 3 to 7. */
+uint64_t cabjirt_route(const uint32_t *top, size_t top_length, const uint32_t *bot, size_t bot_length, uint32_t *ring,
+                       size_t ring_length, uint8_t *board, size_t board_length);
+
+/* Judges a board file of exactly board_length bytes, tangled channels included. Value: its tracks. Refusals 1, 3 to 6, 8 to 10 and faults 11 to 13. */
+uint64_t cabjirt_judge(const uint32_t *top, size_t top_length, const uint32_t *bot, size_t bot_length,
+                       const uint8_t *board, size_t board_length, uint32_t *scratch, size_t scratch_length);
+
+/* The smallest stock blank that holds so many tracks. Value: the tracks that it holds. Refusal 14. */
+uint64_t cabjirt_blank(uint32_t tracks);
+
+#ifdef __cplusplus
+}
+#endif
+
+#endif

@@ -1,0 +1,115 @@
+/* Calls each entry of channel.h with good, short and empty buffers, and says what differs. */
+#include <stdio.h>
+#include <string.h>
+
+#include "channel.h"
+
+static int failed, passed;
+
+static void expect(const char *what, uint64_t got, uint32_t number, uint32_t value)
+{
+    uint64_t due = (uint64_t)number << 32 | value;
+    if (got == due) {
+        passed++;
+        return;
+    }
+    failed++;
+    printf("%s: got %u %u, due %u %u\n", what, cabjirt_number(got), cabjirt_value(got), number, value);
+}
+
+static void expect_same(const char *what, const void *a, const void *b, size_t n)
+{
+    if (memcmp(a, b, n) == 0) {
+        passed++;
+        return;
+    }
+    failed++;
+    printf("%s: differs\n", what);
+}
+
+static uint32_t top[CABJIRT_ROW], bot[CABJIRT_ROW], ring[CABJIRT_RING + 2], scratch[CABJIRT_SCRATCH];
+static uint32_t before[CABJIRT_RING + 2];
+static uint8_t board[CABJIRT_BOARD + 2], untouched[CABJIRT_BOARD + 2];
+
+static uint64_t read_text(const char *text)
+{
+    return cabjirt_read((const uint8_t *)text, strlen(text), top, CABJIRT_ROW, bot, CABJIRT_ROW);
+}
+
+static void reading(void)
+{
+    uint32_t same[CABJIRT_ROW];
+    memset(top, 0xAA, sizeof top);
+    memset(bot, 0xAA, sizeof bot);
+    memcpy(same, top, sizeof same);
+    expect("garbled", read_text("TOP 01"), 2, 5);
+    expect("garbled, empty", cabjirt_read(NULL, 0, top, CABJIRT_ROW, bot, CABJIRT_ROW), 2, 0);
+    expect("short row", cabjirt_read((const uint8_t *)"TOP 0\nBOT 0\n", 12, top, 511, bot, CABJIRT_ROW), 1, 512);
+    expect("no rows", cabjirt_read((const uint8_t *)"TOP 0\nBOT 0\n", 12, NULL, 0, NULL, 0), 1, 512);
+    expect("lone pin", read_text("TOP 1 0\nBOT 0 0\n"), 6, 1);
+    expect_same("rows after a refusal", top, same, sizeof same);
+    expect("example A", read_text("TOP 0 1 2 3\nBOT 1 2 0 3\n"), 0, 4);
+    expect_same("TOP of A", top, (const uint32_t[]){0, 1, 2, 3}, 4 * sizeof *top);
+    expect_same("BOT of A", bot, (const uint32_t[]){1, 2, 0, 3}, 4 * sizeof *bot);
+    expect_same("the rest of TOP", top + 4, same + 4, sizeof same - 4 * sizeof *same);
+}
+
+static void routing(void)
+{
+    static const uint8_t begins[] = {0x01, 0x00, 0x40, 0x16, 0x00, 0x20, 0x04, 0x02};
+    static const uint32_t over[] = {1, 2}, under[] = {2, 1}, pairs[] = {1, 1, 2, 2};
+    memset(board, 0x55, sizeof board);
+    memset(untouched, 0x55, sizeof untouched);
+    memset(ring, 0x55, sizeof ring);
+    memset(before, 0x55, sizeof before);
+    expect("bounds of A", cabjirt_bounds(top, 4, bot, 4), 0, 2 * 65536 + 2);
+    expect("bounds, empty", cabjirt_bounds(NULL, 0, NULL, 0), 4, 1);
+    expect("short ring", cabjirt_route(top, 4, bot, 4, ring, CABJIRT_RING - 1, board, CABJIRT_BOARD), 1, CABJIRT_RING);
+    expect("no ring", cabjirt_route(top, 4, bot, 4, NULL, 0, NULL, 0), 1, CABJIRT_RING);
+    expect("short board", cabjirt_route(top, 4, bot, 4, ring, CABJIRT_RING, board, CABJIRT_BOARD - 1), 1, CABJIRT_BOARD);
+    expect("uneven", cabjirt_route(top, 4, bot, 3, ring, CABJIRT_RING, board, CABJIRT_BOARD), 4, 4);
+    expect("tangled", cabjirt_route(over, 2, under, 2, ring, CABJIRT_RING, board, CABJIRT_BOARD), 7, 2);
+    expect_same("the ring of C", ring, pairs, sizeof pairs);
+    expect_same("the rest of the ring", ring + 4, before + 4, sizeof before - 4 * sizeof *before);
+    expect_same("board after refusals", board, untouched, sizeof board);
+    memset(ring, 0x55, sizeof ring);
+    expect("route A", cabjirt_route(top, 4, bot, 4, ring, CABJIRT_RING, board, CABJIRT_BOARD), 0, 11 * 65536 + 2);
+    expect_same("the file of A", board, begins, sizeof begins);
+    expect_same("the rest of the board", board + 48, untouched + 48, sizeof board - 48);
+    expect_same("the ring after a success", ring, before, sizeof ring);
+    expect("bounds of C", cabjirt_bounds(over, 2, under, 2), 0, 2 * 65536);
+}
+
+static void judging(void)
+{
+    uint8_t file[48];
+    memcpy(file, board, sizeof file);
+    expect("judge A", cabjirt_judge(top, 4, bot, 4, file, 48, scratch, CABJIRT_SCRATCH), 0, 2);
+    expect("short scratch", cabjirt_judge(top, 4, bot, 4, file, 48, scratch, CABJIRT_SCRATCH - 1), 1, CABJIRT_SCRATCH);
+    expect("no scratch", cabjirt_judge(top, 4, bot, 4, file, 48, NULL, 0), 1, CABJIRT_SCRATCH);
+    expect("torn", cabjirt_judge(top, 4, bot, 4, file, 47, scratch, CABJIRT_SCRATCH), 8, 48);
+    expect("no file", cabjirt_judge(top, 4, bot, 4, NULL, 0, scratch, CABJIRT_SCRATCH), 8, 4);
+    expect("wrong board", cabjirt_judge(top, 1, top, 1, file, 48, scratch, CABJIRT_SCRATCH), 10, 4);
+    memmove(file + 32, file + 36, 12); /* example H: the 8th piece is left out */
+    file[3] = 20;
+    expect("open", cabjirt_judge(top, 4, bot, 4, file, 44, scratch, CABJIRT_SCRATCH), 12, 6);
+}
+
+static void blanks(void)
+{
+    expect("blank 0", cabjirt_blank(0), 0, 8);
+    expect("blank 9", cabjirt_blank(9), 0, 12);
+    expect("blank 512", cabjirt_blank(512), 0, 512);
+    expect("blank 513", cabjirt_blank(513), 14, 513);
+    expect("blank, largest", cabjirt_blank(UINT32_MAX), 14, UINT32_MAX);
+}
+
+int main(void)
+{
+    reading();
+    routing();
+    judging();
+    blanks();
+    printf("C entries: %d passed, %d failed\n", passed, failed);
+    return failed != 0;
+}
