@@ -40,7 +40,7 @@ scan-same (takes fit clear rest) e = let h = sublist-length (scan-sublist rest) 
 scan-same (passes {n = n} fails rest) e = let r = scan-same rest (omega arith) in (r .0, ap (λ (l : List ℕ). n ∷ l) (r .1))
 
 module _ (it : Items) (done : ℕ) (ps : List Place) where
-  pub fill-none : (fuel : ℕ) → fillFrom fuel it done ps [] ≡ filled done ps
+  fill-none : (fuel : ℕ) → fillFrom fuel it done ps [] ≡ filled done ps
   unfolding fillFrom orElse
   fill-none zero = refl
   fill-none (suc fuel) = refl
@@ -49,7 +49,7 @@ module _ (it : Items) (done : ℕ) (ps : List Place) where
   after ls = scan it (suc done) none ps ls
 
   -- the next track stays empty
-  pub fill-stays : (fuel : ℕ) (ls : List ℕ) → 0 < length ls → length ls ≤ fuel → length (after ls .left) ≡ length ls → fillFrom fuel it done ps ls ≡ stuck ls
+  fill-stays : (fuel : ℕ) (ls : List ℕ) → 0 < length ls → length ls ≤ fuel → length (after ls .left) ≡ length ls → fillFrom fuel it done ps ls ≡ stuck ls
   unfolding fillFrom orElse
   fill-stays zero [] some-left enough same = absurd (omega arith)
   fill-stays zero (n ∷ ns) some-left enough same = absurd (omega arith)
@@ -57,7 +57,7 @@ module _ (it : Items) (done : ℕ) (ps : List Place) where
   fill-stays (suc fuel) (n ∷ ns) some-left enough same = rw (eq-eqb (length (after (n ∷ ns) .left)) (length (n ∷ ns)) same)
 
   -- or it takes an item, and there is fuel for the rest
-  pub fill-next : (fuel : ℕ) (ls : List ℕ) → 0 < length ls → length ls ≤ fuel → (length (after ls .left) ≡ length ls → ⊥)
+  fill-next : (fuel : ℕ) (ls : List ℕ) → 0 < length ls → length ls ≤ fuel → (length (after ls .left) ≡ length ls → ⊥)
       → (less : ℕ) × (length (after ls .left) ≤ less) × (fillFrom fuel it done ps ls ≡ fillFrom less it (suc done) (after ls .placed) (after ls .left))
   unfolding fillFrom orElse
   fill-next zero [] some-left enough fewer = absurd (omega arith)
@@ -113,7 +113,7 @@ module _ (ch : Channel) (esc : Escapes ch) where
         let l = spanning→ ch n (order→spanning ch n (sublist-member (u .settled .sub) (subst (λ (l : List ℕ). List·Memᴰ n l) (u .ahead) m))) .0 .low in
         omega arith
 
-    pub none-left : count ≡ 0 → fill ch ≡ filled done (u .ps)
+    none-left : count ≡ 0 → fill ch ≡ filled done (u .ps)
     none-left e = u .rest ∙ (ap (fillFrom (u .fuel) it done (u .ps)) (empty (u .ls) (sym (u .counted) ∙ e)) ∙ fill-none it done (u .ps) (u .fuel))
       where
         empty : (ls : List ℕ) → length ls ≡ 0 → ls ≡ []

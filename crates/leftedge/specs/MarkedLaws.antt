@@ -48,14 +48,14 @@ mark b = cond b 1 0
 
 module _ (ch : Channel) (tracks : List ℕ) where
   -- a net stands in a column directly above one without a track
-  pub blocked→ : (n c : ℕ) → T (blockedIn ch tracks n c) → Above ch n (at (ch .bot) c) c × (getD tracks (at (ch .bot) c) 0 ≡ 0)
+  blocked→ : (n c : ℕ) → T (blockedIn ch tracks n c) → Above ch n (at (ch .bot) c) c × (getD tracks (at (ch .bot) c) 0 ≡ 0)
   unfolding blockedIn
   blocked→ n c t =
       let up = above ch n (at (ch .bot) c) c in
       let bare = eqb (getD tracks (at (ch .bot) c) 0) 0 in
       (above→ ch n (at (ch .bot) c) c (and-left up bare t), eqb→eq (getD tracks (at (ch .bot) c) 0) 0 (and-right up bare t))
 
-  pub →blocked : (n b c : ℕ) → Above ch n b c → getD tracks b 0 ≡ 0 → T (blockedIn ch tracks n c)
+  →blocked : (n b c : ℕ) → Above ch n b c → getD tracks b 0 ≡ 0 → T (blockedIn ch tracks n c)
   unfolding blockedIn
   →blocked n b c h z =
       rw (h .onBot) (and-both (above ch n b c) (eqb (getD tracks b 0) 0) (→above ch n b c h) (rw z tt))
@@ -148,7 +148,7 @@ module _ (ch : Channel) (esc : Escapes ch) where
   orderly = nets-orderly ch esc
 
   -- the marks tell which nets are clear below
-  pub marks-clear : (ps : List Place) → ((b : ℕ) → T (isPlaced ps b) → 1 ≤ trackOf ps b) → (n : ℕ) → n < 512
+  marks-clear : (ps : List Place) → ((b : ℕ) → T (isPlaced ps b) → 1 ≤ trackOf ps b) → (n : ℕ) → n < 512
       → eqb (getD (blockedMarks ch (each512 (trackOf ps))) n 0) 0 ≡ clearBelow it ps n
   marks-clear ps positive n low = same-test _ (clearBelow it ps n) clear unmarked
     where

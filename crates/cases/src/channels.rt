@@ -1,0 +1,183 @@
+// Channels handed over as rows, and boards judged against them.
+ghost use Prim.Native.Nat.{_≤_};
+ghost use lib.ListN.{length};
+use crate::output;
+use crate::rows;
+use channel::BoundsAnswer;
+use channel::RowsAnswer;
+use judge::Fault;
+use judge::JudgeAnswer;
+use leftedge::NetRecord;
+use refusal::Refusal;
+use router::RouteAnswer;
+
+fn put_check(top: &[u32], bot: &[u32]) {
+    output::put_word(b"CHECK");
+    match channel::check(top, bot) {
+        RowsAnswer::Accepted => output::put_word(b" 0\n"),
+        RowsAnswer::Refused(refusal) => output::put_refusal(refusal),
+    }
+}
+
+fn put_bounds(top: &[u32], bot: &[u32]) {
+    output::put_word(b"BOUNDS");
+    match channel::bounds(top, bot) {
+        BoundsAnswer::Bounds { density, chain } => {
+            output::put_field(0);
+            output::put_field(density as u64);
+            output::put_field(chain as u64);
+            output::put_word(b"\n");
+        }
+        BoundsAnswer::Refused(refusal) => output::put_refusal(refusal),
+    }
+}
+
+// The track of each net, by rising number.
+fn put_tracks(records: [NetRecord; 511], count: usize) {
+    output::put_word(b"TRACKS");
+    let mut i: usize = 0;
+    while i < 511 {
+        if i < count {
+            let record = records[i];
+            output::put_number(record.track.0);
+        }
+        i += 1;
+    }
+    output::put_word(b"\n");
+}
+
+// The ring of a channel that is tangled; a refusal that is no 7 leaves the ring buffer as it was.
+fn put_unfilled(refusal: Refusal, ring: &[u32]) {
+    output::put_refusal(refusal);
+    match refusal {
+        Refusal::Tangled(pairs) => {
+            output::put_word(b"RING");
+            output::put_row(ring, doubled(pairs));
+            output::put_kept_word(output::is_kept(ring, doubled(pairs)));
+        }
+        _ => output::put_kept_word(output::is_kept(ring, 0)),
+    }
+}
+
+// Twice a number of at most 511.
+fn doubled(n: usize) -> usize {
+    if 511 < n {
+        return 1022;
+    }
+    2 * n
+}
+
+// Routes rows; the ring buffer holds 7777 everywhere before.
+fn put_fill(top: &[u32], bot: &[u32]) {
+    let mut ring = [7777u32; 1022];
+    let mut board = [0u8; 10240];
+    output::put_word(b"FILL");
+    let routing = router::route(top, bot, &mut ring, &mut board);
+    let answer = routing.answer;
+    match answer {
+        RouteAnswer::Routed { tracks, pieces: _ } => {
+            let records = routing.records;
+            output::put_field(0);
+            output::put_field(tracks as u64);
+            output::put_word(b"\n");
+            put_tracks(records, routing.count);
+            output::put_kept_word(output::is_kept(&ring, 0));
+        }
+        RouteAnswer::Refused(refusal) => put_unfilled(refusal, &ring),
+    }
+}
+
+fn put_fault(fault: Fault) {
+    match fault {
+        Fault::Short(place) => output::put_numbered(11, place),
+        Fault::Open(place) => output::put_numbered(12, place),
+        Fault::Floating(piece) => output::put_numbered(13, piece),
+    }
+}
+
+fn put_judged(top: &[u32], bot: &[u32], board: &[u8]) {
+    let mut scratch = [0u32; 10238];
+    output::put_word(b"JUDGE");
+    match judge::judge(top, bot, board, &mut scratch) {
+        JudgeAnswer::Good(tracks) => {
+            output::put_field(0);
+            output::put_field(tracks as u64);
+            output::put_word(b"\n");
+        }
+        JudgeAnswer::Faulty(fault) => put_fault(fault),
+        JudgeAnswer::Refused(refusal) => output::put_refusal(refusal),
+    }
+}
+
+// Asks the question of a kind about two rows; `board` is for the judge.
+fn ask(kind: u8, top: &[u32], bot: &[u32], board: &[u8]) {
+    match kind {
+        4 => put_check(top, bot),
+        5 => put_bounds(top, bot),
+        6 => put_fill(top, bot),
+        _ => put_judged(top, bot, board),
+    }
+}
+
+// The same of the rows in `bytes`, of which TOP has a numbers and BOT b, read into lent ones; answers whether those are long enough.
+fn ask_rows(
+    kind: u8,
+    bytes: &[u8],
+    a: usize,
+    b: usize,
+    board: &[u8],
+    top: &mut [u32],
+    bot: &mut [u32],
+) -> bool
+    requires { ⌜ (length (now top) ≤ 1024) × (length (now bot) ≤ 1024) ⌝ }
+{
+    if top.len() < a {
+        return false;
+    }
+    if bot.len() < b {
+        return false;
+    }
+    rows::read_row(bytes, 2, &mut top[..a]);
+    rows::read_row(bytes, 2 + 2 * a, &mut bot[..b]);
+    ask(kind, &top[..a], &bot[..b], board);
+    true
+}
+
+// The same where the length of TOP stands in front of the rows.
+fn ask_sized(kind: u8, bytes: &[u8], board: &[u8]) -> bool {
+    if bytes.len() < 2 {
+        return false;
+    }
+    let a = output::pair(bytes[0], bytes[1]);
+    let all = (bytes.len() - 2) / 2;
+    if all < a {
+        return false;
+    }
+    let mut top = [0u32; 1024];
+    let mut bot = [0u32; 1024];
+    ask_rows(kind, bytes, a, all - a, board, &mut top, &mut bot)
+}
+
+pub fn answer_check(bytes: &[u8]) -> bool {
+    ask_sized(4, bytes, b"")
+}
+
+pub fn answer_bounds(bytes: &[u8]) -> bool {
+    ask_sized(5, bytes, b"")
+}
+
+pub fn answer_fill(bytes: &[u8]) -> bool {
+    ask_sized(6, bytes, b"")
+}
+
+// The length of the rows' bytes in two bytes, the rows, and a board.
+pub fn answer_judge(bytes: &[u8]) -> bool {
+    if bytes.len() < 2 {
+        return false;
+    }
+    let end = 2 + output::pair(bytes[0], bytes[1]);
+    if bytes.len() < end {
+        return false;
+    }
+    ask_sized(7, &bytes[2..end], &bytes[end..])
+}
