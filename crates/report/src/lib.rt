@@ -48,6 +48,7 @@ pub fn put_refused(out: &mut [u8], number: u64, place: u64) -> usize
     requires { ⌜ 64 ≤ length (now out) ⌝ }
     ensures { λ r.
         ⌜ (r ≡ length (refusedLine number place)) × (now (out .exit) ≡ sets (now (out .entry)) 0 (refusedLine number place)) ⌝ }
+    ensures { λ r. ⌜ r ≤ 64 ⌝ }
 {
     let word = put_text(out, 0, b"REFUSED");
     let first = put_number(out, word, number);
@@ -60,6 +61,7 @@ pub fn put_good(out: &mut [u8], tracks: u64) -> usize
     requires { ⌜ 64 ≤ length (now out) ⌝ }
     ensures { λ r.
         ⌜ (r ≡ length (goodLine tracks)) × (now (out .exit) ≡ sets (now (out .entry)) 0 (goodLine tracks)) ⌝ }
+    ensures { λ r. ⌜ r ≤ 64 ⌝ }
 {
     let word = put_text(out, 0, b"GOOD");
     let first = put_number(out, word, tracks);
@@ -71,6 +73,7 @@ pub fn put_ring(out: &mut [u8], at: usize, ring: &[u32], pairs: usize) -> usize
     requires { ⌜ (pairs ≤ 511) × (2 * pairs ≤ length (now ring)) × (at + 64 * pairs ≤ length (now out)) ⌝ }
     ensures { λ r.
         ⌜ (r ≡ at + length (ringText (now (ring .entry)) pairs)) × (now (out .exit) ≡ sets (now (out .entry)) at (ringText (now (ring .entry)) pairs)) ⌝ }
+    ensures { λ r. ⌜ r ≤ at + 64 * pairs ⌝ }
 {
     let mut next = at;
     let mut i: usize = 0;
@@ -162,6 +165,7 @@ fn put_nets(out: &mut [u8], at: usize, records: [NetRecord; 511], count: usize) 
 fn put_end(out: &mut [u8], at: usize, pieces: u32) -> usize
     requires { ⌜ at + 100 ≤ length (now out) ⌝ }
     ensures { λ r. ⌜ Put (now (out .entry)) at (endLine pieces) (now (out .exit)) r ⌝ }
+    ensures { λ r. ⌜ r ≤ at + 100 ⌝ }
 {
     let word = put_text(out, at, b"END");
     let number = put_number(out, word, pieces as u64);
@@ -173,6 +177,7 @@ pub fn put_listing(out: &mut [u8], f: Figures, records: [NetRecord; 511], count:
     requires { ⌜ (count ≤ 511) × (65536 ≤ length (now out)) ⌝ }
     ensures { λ r.
         ⌜ (r ≡ length (listingText f (take count records))) × (now (out .exit) ≡ sets (now (out .entry)) 0 (listingText f (take count records))) ⌝ }
+    ensures { λ r. ⌜ r ≤ 65536 ⌝ }
 {
     let board = put_board(out, f);
     let bounds = put_bounds(out, board, f);

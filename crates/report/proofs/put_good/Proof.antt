@@ -1,4 +1,5 @@
 -- `put_good` meets its contract: the word, the number and the line feed, each put behind the one before, are the line.
+use native.Mathlib.Omega.{arith}
 use mathlib.Core.List.{[], _∷_}
 use borrow.Author.Needs.{needs}
 use Rattle.lists.specs.Bytes.{bytes}
@@ -29,7 +30,7 @@ returns c =
     let n = e .before .before .before .before in
     let w = n .before .before .before .before in
     let a = w .before .before .before .before .args in
-    put-front (put-line "GOOD" (a .tracks ∷ []) (put-then (w .put-text .ensures) (put-then (n .put-number .ensures .0) (e .end-line .ensures))))
+    (put-front (put-line "GOOD" (a .tracks ∷ []) (put-then (w .put-text .ensures) (put-then (n .put-number .ensures .0) (e .end-line .ensures)))), omega (arith, w .put-text .ensures .place, n .put-number .ensures .1, e .end-line .ensures .place))
 
 pub put-good-spec : {M : Type 1} → statement M
 put-good-spec =

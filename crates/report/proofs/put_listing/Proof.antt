@@ -1,4 +1,5 @@
 -- `put_listing` meets its contract: the first two lines, the nets' and the last, each put behind the one before, are the listing, by `listing-lines`.
+use native.Mathlib.Omega.{arith}
 use lib.ListN.{take}
 use borrow.Author.Needs.{needs}
 use Rattle.report.specs.PutLaws.{put-then, put-same, put-front}
@@ -28,8 +29,8 @@ returns c =
     let d = n .before .before .before .before in
     let b = d .before .before .before .before in
     let a = b .before .before .before .args in
-    let lines = put-then (put-then (put-then (b .put-board .ensures .0) (d .put-bounds .ensures .0)) (n .put-nets .ensures .0)) (e .put-end .ensures) in
-    put-front (put-same lines (listing-lines (a .f) (take (a .count) (a .records))))
+    let lines = put-then (put-then (put-then (b .put-board .ensures .0) (d .put-bounds .ensures .0)) (n .put-nets .ensures .0)) (e .put-end .ensures .0) in
+    (put-front (put-same lines (listing-lines (a .f) (take (a .count) (a .records)))), omega (arith, b .before .before .before .pre, b .put-board .ensures .1, d .put-bounds .ensures .1, n .put-nets .ensures .1, e .put-end .ensures .1))
 
 pub put-listing-spec : {M : Type 1} → statement M
 put-listing-spec =

@@ -1,4 +1,5 @@
 -- `put_refused` meets its contract: the word, the two numbers and the line feed, each put behind the one before, are the line.
+use native.Mathlib.Omega.{arith}
 use mathlib.Core.List.{[], _∷_}
 use borrow.Author.Needs.{needs}
 use Rattle.lists.specs.Bytes.{bytes}
@@ -33,7 +34,7 @@ returns c =
     let n₁ = n₂ .before .before .before .before in
     let w = n₁ .before .before .before .before in
     let a = w .before .before .before .before .args in
-    put-front (put-line "REFUSED" (a .number ∷ a .place ∷ []) (put-then (w .put-text .ensures) (put-then (n₁ .put-number .ensures .0) (put-then (n₂ .put-number2 .ensures .0) (e .end-line .ensures)))))
+    (put-front (put-line "REFUSED" (a .number ∷ a .place ∷ []) (put-then (w .put-text .ensures) (put-then (n₁ .put-number .ensures .0) (put-then (n₂ .put-number2 .ensures .0) (e .end-line .ensures))))), omega (arith, w .put-text .ensures .place, n₁ .put-number .ensures .1, n₂ .put-number2 .ensures .1, e .end-line .ensures .place))
 
 pub put-refused-spec : {M : Type 1} → statement M
 put-refused-spec =

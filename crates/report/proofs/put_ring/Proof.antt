@@ -68,7 +68,7 @@ returns c =
     let inv = c .before .loop .inv in
     let end : c .before .loop .i ≡ a .pairs = omega arith in
     let p = rw end at (inv .1) in
-    (p .place, p .stored)
+    ((p .place, p .stored), omega (arith, inv .2))
 
 pub put-ring-spec : {M : Type 1} → statement M
 put-ring-spec =

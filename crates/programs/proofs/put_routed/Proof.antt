@@ -1,0 +1,106 @@
+-- `put_routed` meets its contract: rows that escape have bounds (`bounds-told`) and 511 tracks have a blank (`blank-told`), so neither refusal comes, and the figures are those of the channel.
+use Prim.Native.Nat.{ℕ}
+use native.Mathlib.Omega.{arith}
+use mathlib.Core.Path.{_≡_, sym, _∙_}
+use denote.Ref.{now}
+use borrow.Author.Needs.{needs}
+use Rattle.channel.specs.Constraints.{chain}
+use Rattle.channel.specs.Density.{density}
+use Rattle.channel.specs.Channel.{Channel}
+use Rattle.blanks.specs.Stock.{smallestFor, stock}
+use Rattle.programs.specs.CodeLaws.{bounds-told, blank-told}
+use Rattle.programs.proofs.put_routed.Statement.{statement}
+use Rattle.programs.proofs.put_routed.Tie as tie
+
+abbrev channel : tie.Start → Channel
+channel c = record { top = now (c .args .top); bot = now (c .args .bot) }
+
+bounds-requires : tie.Need-bounds-requires
+bounds-requires c κs = search needs
+
+enum-known-refusal : tie.Need-enum-known-refusal
+enum-known-refusal c = search needs
+
+put-refusal-requires : tie.Need-put-refusal-requires
+put-refusal-requires c κs = search needs
+
+enum-known-density : tie.Need-enum-known-density
+enum-known-density c = search needs
+
+blank-requires : tie.Need-blank-requires
+blank-requires c κs = search needs
+
+enum-known-refusal-2 : tie.Need-enum-known-refusal-2
+enum-known-refusal-2 c = search needs
+
+put-refusal-requires-2 : tie.Need-put-refusal-requires-2
+put-refusal-requires-2 c κs = search needs
+
+enum-known-blank : tie.Need-enum-known-blank
+enum-known-blank c = search needs
+
+cast-t23 : tie.Need-cast-t23
+cast-t23 c = search needs
+
+put-listing-requires : tie.Need-put-listing-requires
+put-listing-requires c κs = search needs
+
+same-length : tie.Need-same-length
+same-length c = search needs
+
+returns : tie.Need-returns
+returns c =
+    let refused = c .before .before .before .before .before in
+    let told = refused .before .before in
+    let start = told .before .before .before .before in
+    absurd (let same = sym (told .bounds .ensures ∙ bounds-told _ (start .pre .0)) ∙ refused .refusal .given .1 in let z : _≡_ {A = ℕ} 0 1 = cc in omega arith)
+
+same-length-2 : tie.Need-same-length-2
+same-length-2 c = search needs
+
+returns-2 : tie.Need-returns-2
+returns-2 c =
+    let refused = c .before .before .before .before .before in
+    let told = refused .before .before in
+    let start = told .before .before .before .before .before .before .before .before in
+    absurd (let same = sym (told .blank .ensures ∙ blank-told _ (start .pre .1)) ∙ refused .refusal2 .given .1 in let z : _≡_ {A = ℕ} 0 1 = cc in omega arith)
+
+same-length-3 : tie.Need-same-length-3
+same-length-3 c = search needs
+
+returns-3 : tie.Need-returns-3
+returns-3 c =
+    let p = c .before .before in
+    let chosen = p .before .before .before .before in
+    let tried = chosen .before .before in
+    let bound = tried .before .before in
+    let told = bound .before .before in
+    let start = told .before .before .before .before in
+    let a = start .args in
+    let bounds = sym (told .bounds .ensures ∙ bounds-told _ (start .pre .0)) ∙ bound .density .given .1 in
+    let blanks = sym (tried .blank .ensures ∙ blank-told _ (start .pre .1)) ∙ chosen .blank2 .given .1 in
+    let told-density : bound .density .given .0 .0 ≡ density (channel start) = cc in
+    let told-chain : bound .density .given .0 .1 .0 ≡ chain (channel start) = cc in
+    let told-blank : chosen .blank2 .given .0 .0 ≡ smallestFor stock (a .tracks) = cc in
+    (rw (told-density, told-chain, told-blank) at (p .put-listing .ensures .0), p .put-listing .ensures .1)
+
+pub put-routed-spec : {M : Type 1} → statement M
+put-routed-spec =
+    tie.close
+    (tie.spec
+    bounds-requires
+    enum-known-refusal
+    put-refusal-requires
+    enum-known-density
+    blank-requires
+    enum-known-refusal-2
+    put-refusal-requires-2
+    enum-known-blank
+    cast-t23
+    put-listing-requires
+    same-length
+    returns
+    same-length-2
+    returns-2
+    same-length-3
+    returns-3)
