@@ -34,7 +34,8 @@ def refused(cases):
     cases.read(text([0] * 600, [0]))
     cases.read(text([1, 1], [0]))
     cases.read(text([1], [0, 1]))
-    cases.read(b"TOP 1\nBOT " + b"7" * 6000 + b"\n")
+    for digits in (6000, 60000):
+        cases.read(b"TOP 1\nBOT " + b"7" * digits + b"\n")
     cases.read(b"TOP " + b"9" * 20 + b" 0\nBOT 0 0\n")
     cases.read(b"TOP 4294967297 1\nBOT 1 1\n")  # one more than 32 bits hold, which must not wrap to net 1
     cases.read(b"TOP 18446744073709551617 1\nBOT 1 1\n")

@@ -25,6 +25,7 @@ use Rattle.channel.specs.Density.{density}
 use Rattle.channel.specs.Constraints.{Step, chain}
 use Rattle.channel.specs.Answers.{Escapes, rowsRefusal, boundsAnswer}
 use Rattle.channel.specs.EscapeLaws.{accepted-exactly}
+use Rattle.wiring.specs.Layouts.{Layout}
 use Rattle.pinlist.specs.declared.ReadAnswer.{ReadAnswer}
 use Rattle.pinlist.specs.declared.ReadAnswer.the-variants as read
 use Rattle.pinlist.specs.Answers.{garbledRefusal, textChannel, textRefusal, readRefusal, readAnswer, topAfter, botAfter}
@@ -42,7 +43,6 @@ use Rattle.blanks.specs.Stock.{stock, smallestFor, noBlank, blankAnswer}
 use Rattle.promises.specs.Proved.{trays-fit}
 use Rattle.router.specs.declared.Routing.{Routing}
 use Rattle.router.specs.declared.RouteAnswer.the-variants as route
-use Rattle.wiring.specs.Layouts.{Layout}
 use Rattle.router.specs.Route.{ringShown, tangled, layoutDrawn, recordsMade, routeTrays, routeRefusal, boardAfter}
 use Rattle.router.specs.ContractLaws.{only-tangled, stuck-answer, filled-answer, stuck-ring, filled-board}
 use Rattle.router.specs.Code.{recordsUnless, RouteDone}

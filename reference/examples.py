@@ -1,0 +1,77 @@
+"""Runs the three programs on the bench examples A to M of the scope paper and compares what they write with the paper, to the letter.
+
+Usage: python3 reference/examples.py target/bin
+"""
+import subprocess
+import sys
+import tempfile
+from pathlib import Path
+
+import channel
+
+A = b"TOP 0 1 2 3\nBOT 1 2 0 3\n"
+LISTED = {
+    "A": (A, b"BOARD 4 2 8\nBOUND 2 2\nNET 1 1 2 2\nNET 2 2 3 1\nNET 3 4 4 0\nEND 11\n"),
+    "B": (b"TOP 0 1 6 1 2 3 5\nBOT 6 3 5 4 0 2 4\n",
+          b"BOARD 7 5 8\nBOUND 4 3\nNET 1 2 4 5\nNET 2 5 6 3\nNET 3 2 6 4\nNET 4 4 7 1\nNET 5 3 7 2\nNET 6 1 3 3\nEND 30\n"),
+    "C": (b"TOP 1 2\nBOT 2 1\n", b"REFUSED 7 2\nRING 1 1\nRING 2 2\n"),
+    "D": (b"TOP 1 2 3 1\nBOT 2 3 2 0\n", b"REFUSED 7 2\nRING 2 2\nRING 3 3\n"),
+    "E": (b"TOP 1 0 1 2 0 2\nBOT 0 3 0 0 3 0\n", b"BOARD 6 2 8\nBOUND 2 1\nNET 1 1 3 1\nNET 2 4 6 1\nNET 3 2 5 2\nEND 15\n"),
+    "F": (b"TOP 0\nBOT 0\n", b"BOARD 1 0 8\nBOUND 0 0\nEND 0\n"),
+    "G": (b"TOP 5\nBOT 5\n", b"BOARD 1 0 8\nBOUND 0 0\nNET 5 1 1 0\nEND 1\n"),
+    "K": (b"TOP 01", b"REFUSED 2 5\n"),
+    "L": (b"TOP 1 0\nBOT 0 0\n", b"REFUSED 6 1\n"),
+    "M, net 511": (b"TOP 511\nBOT 511\n", b"BOARD 1 0 8\nBOUND 0 0\nNET 511 1 1 0\nEND 1\n"),
+    "M, net 512": (b"TOP 512\nBOT 512\n", b"REFUSED 5 1\n"),
+    "M, 512 columns": (b"TOP" + b" 0" * 512 + b"\nBOT" + b" 0" * 512 + b"\n", b"BOARD 512 0 8\nBOUND 0 0\nEND 0\n"),
+    "M, 513 columns": (b"TOP" + b" 0" * 513 + b"\nBOT" + b" 0" * 513 + b"\n", b"REFUSED 3 513\n"),
+    "too long": (b"TOP" + b" 0" * 40000, b"REFUSED 0 65536\n"),
+    "as long as may be": (b"TOP" + b" " * 65533, b"REFUSED 2 4\n"),
+}
+
+
+def run(program, data=b"", cwd=None):
+    return subprocess.run([program], input=data, stdout=subprocess.PIPE, cwd=cwd, check=True).stdout
+
+
+def judged(program, pins, board):
+    """Runs the judging program in a folder with these files; None is an absent file."""
+    with tempfile.TemporaryDirectory() as folder:
+        for name, data in (("pins", pins), ("board", board)):
+            if data is not None:
+                Path(folder, name).write_bytes(data)
+        return run(program, cwd=folder)
+
+
+def main(bins):
+    failures = []
+
+    def expect(name, got, due):
+        if got != due:
+            failures.append(f"{name}: wrote {got[:80]!r}, due {due[:80]!r}")
+
+    for name, (text, due) in LISTED.items():
+        expect(f"listing {name}", run(bins / "listing", text), due)
+        board = run(bins / "board_writer", text)
+        expect(f"board {name}", board, channel.board(text))
+        if not due.startswith(b"REFUSED"):
+            expect(f"judge {name}", judged(bins / "board_judge", text, board), b"GOOD %s\n" % due.split()[2])
+    file = run(bins / "board_writer", A)
+    expect("file of A", file[:8], bytes.fromhex("0100401600200402"))
+    width, tracks, pieces = channel.open_board(file)
+    faults = {"H": (pieces[:7] + pieces[8:], b"REFUSED 12 6\n"), "I": (pieces[:3] + [(1, 2, 1, 3)] + pieces[4:], b"REFUSED 11 3\n"),
+              "J": (pieces + [(0, 2, 3, 4)], b"REFUSED 13 12\n")}
+    for name, (changed, due) in faults.items():
+        expect(f"judge {name}", judged(bins / "board_judge", A, channel.encode(width, tracks, changed)), due)
+    expect("no files", judged(bins / "board_judge", None, None), b"REFUSED 2 0\n")
+    expect("no board", judged(bins / "board_judge", A, None), b"REFUSED 8 4\n")
+    expect("pins before board", judged(bins / "board_judge", b"TOP 01", b"x"), b"REFUSED 2 5\n")
+    expect("long board", judged(bins / "board_judge", A, bytes(65537)), b"REFUSED 0 65536\n")
+    for failure in failures:
+        print(failure)
+    print(f"examples: {'all as in the paper' if not failures else f'{len(failures)} differ'}")
+    return bool(failures)
+
+
+if __name__ == "__main__":
+    sys.exit(main(Path(sys.argv[1]).resolve()))
