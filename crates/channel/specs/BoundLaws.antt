@@ -19,7 +19,7 @@ unfolding answered
 accepted→none none e = refl
 accepted→none (some r) e = absurd (let z : _≡_ {A = ℕ} 0 1 = cc in omega arith)
 
-refused→some : (q : Option Refusal) (r : Refusal) → answered rows.Refused q rows.Accepted ≡ rows.Refused r → q ≡ some r
+pub refused→some : (q : Option Refusal) (r : Refusal) → answered rows.Refused q rows.Accepted ≡ rows.Refused r → q ≡ some r
 unfolding answered
 refused→some none r e = absurd (let z : _≡_ {A = ℕ} 0 1 = cc in omega arith)
 refused→some (some s) r e = cc

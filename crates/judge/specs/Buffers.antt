@@ -8,11 +8,12 @@ use mathlib.Core.Bool.{Bool, true, false, cond}
 use lib.ListN.{length, getD, take, drop, set, length-map}
 use lib.Seq.{take-suc, drop-cons, append-snoc, set-at, take-at, getD-at, getD-take, length-take-le}
 use lib.Dec.{eqb, eqb→eq}
+use Rattle.lists.specs.Arrays.{from-snoc}
 use Rattle.lists.specs.Lists.{from}
 use Rattle.lists.specs.Tests.{true→T, fails→false}
 use Rattle.lists.specs.Places.{length-from}
 use Rattle.judge.specs.Joins.{relabelled, Marking, joinPlace, joinPlaces, JoinedTo, join-places-append, map-itself}
-use Rattle.judge.specs.Touched.{touched, touched-append, touched-one, from-last}
+use Rattle.judge.specs.Touched.{touched, touched-append, touched-one}
 
 -- p stands in front of what was there before
 module _ (p s : List ℕ) (i : ℕ) (filled : length p ≡ i) (inside : i < length s) where
@@ -34,7 +35,7 @@ take-next s i h = ap (λ (k : ℕ). take k s) (add-one i) ∙ take-suc s i 0 h
 pub alone-next : (s : List ℕ) (i : ℕ) → i < length s → set (from 1 i ++ drop i s) i (i + 1) ≡ from 1 (i + 1) ++ drop (i + 1) s
 alone-next s i h =
     front-set (from 1 i) s i (length-from 1 i) h (i + 1)
-    ∙ ap (λ (l : List ℕ). l ++ drop (i + 1) s) (ap (λ (k : ℕ). from 1 i ++ (k ∷ [])) (omega arith) ∙ sym (ap (from 1) (add-one i) ∙ from-last 1 i))
+    ∙ ap (λ (l : List ℕ). l ++ drop (i + 1) s) (ap (λ (k : ℕ). from 1 i ++ (k ∷ [])) (omega arith) ∙ sym (ap (from 1) (add-one i) ∙ from-snoc 1 i))
 
 module _ (old new : ℕ) (s : List ℕ) where
   -- the first i marks are relabelled

@@ -7,13 +7,14 @@ use mathlib.Core.Bool.{Bool, true, false, cond}
 use mathlib.Core.Logic.{⊎-elim}
 use lib.ListN.{length, getD, length-append, length-map}
 use lib.Dec.{eqb, eqb→eq}
+use Rattle.lists.specs.Arrays.{from-snoc}
 use Rattle.lists.specs.Lists.{keep, isIn, headOr, from}
 use Rattle.lists.specs.Tests.{fails→false}
 use Rattle.lists.specs.Members.{keep-member}
 use Rattle.judge.specs.Classes.{Marked, marksOf, marksMet, remark, addElement, classesFrom, classes}
 use Rattle.judge.specs.ClassLaws.{classes-elements}
 use Rattle.judge.specs.Joins.{Marking, joinPlaces, raised, raised-none, reached, joined-places}
-use Rattle.judge.specs.Touched.{touched, touched-map, touched-never, touched-member, met-touched, from-last}
+use Rattle.judge.specs.Touched.{touched, touched-map, touched-never, touched-member, met-touched}
 
 -- a marking with the new element's own mark at the end: k, the new one, if it touched none
 abbrev pub completed : ℕ → Marking → List ℕ
@@ -139,7 +140,7 @@ module _ {A : Type 0} (touch : A → A → Bool) where
         next : marksOf (classes touch (map inject (xs ++ (y ∷ [])))) ≡ from 1 (length (xs ++ (y ∷ [])))
         next =
             let none = touched-map (λ z. touch z (inject y)) inject 0 xs ∙ touched-never (λ z. touch (inject z) (inject y)) 0 xs (λ z m. apart z y) in
-            ap (λ (l : List A). marksOf (classes touch l)) (map-append inject xs (y ∷ [])) ∙ marks-last (map inject xs) (inject y) ∙ rw (none, h, length-map xs inject) (sym (ap (from 1) (length-append xs (y ∷ []) ∙ omega arith) ∙ from-last 1 (length xs) ∙ ap (λ (k : ℕ). from 1 (length xs) ++ (k ∷ [])) (omega arith)))
+            ap (λ (l : List A). marksOf (classes touch l)) (map-append inject xs (y ∷ [])) ∙ marks-last (map inject xs) (inject y) ∙ rw (none, h, length-map xs inject) (sym (ap (from 1) (length-append xs (y ∷ []) ∙ omega arith) ∙ from-snoc 1 (length xs) ∙ ap (λ (k : ℕ). from 1 (length xs) ++ (k ∷ [])) (omega arith)))
 
     pub alone : (xs : List B) → marksOf (classes touch (map inject xs)) ≡ from 1 (length xs)
     unfolding classes classesFrom marksOf from

@@ -77,12 +77,6 @@ module _ {A : Type 0} where
   pub met-touched : (f : A → Bool) (ms : List (Marked A)) → marksOf (keep (λ m. f (m .element)) ms) ≡ map (λ i. getD (marksOf ms) i 0) (touched f 0 (elementsOf ms))
   met-touched f ms = met-from f (marksOf ms) 0 ms (λ i h. ap (λ (k : ℕ). getD (marksOf ms) k 0) (omega arith))
 
--- the last number of a range
-pub from-last : (a n : ℕ) → from a (suc n) ≡ from a n ++ ((a + n) ∷ [])
-unfolding from
-from-last a zero = ap (λ (k : ℕ). k ∷ []) (omega arith)
-from-last a (suc n) = ap (λ (l : List ℕ). a ∷ l) (from-last (suc a) n ∙ ap (λ (k : ℕ). from (suc a) n ++ (k ∷ [])) (omega arith))
-
 -- a test that passes at most at one number c of a range
 pub touched-at : (f : ℕ → Bool) (a b n c : ℕ) → b ≤ c → c < b + n → ((x : ℕ) → (x ≡ c → ⊥) → f x ≡ false) → touched f a (from b n) ≡ cond (f c) ((a + (c - b)) ∷ []) []
 unfolding touched from

@@ -44,7 +44,7 @@ use Rattle.promises.specs.Proved.{trays-fit}
 use Rattle.router.specs.declared.Routing.{Routing}
 use Rattle.router.specs.declared.RouteAnswer.the-variants as route
 use Rattle.router.specs.Route.{ringShown, tangled, layoutDrawn, recordsMade, routeTrays, routeRefusal, boardAfter}
-use Rattle.router.specs.ContractLaws.{only-tangled, stuck-answer, filled-answer, stuck-ring, filled-board}
+use Rattle.router.specs.ContractLaws.{pairs-length, only-tangled, stuck-answer, filled-answer, stuck-ring, filled-board}
 use Rattle.router.specs.Code.{recordsUnless, RouteDone}
 use Rattle.router.specs.CodeLaws.{room}
 use Rattle.report.specs.Lines.{refusedLine, ringLines, refusalLines}
@@ -198,11 +198,6 @@ has-blank t h = rw (le-ltb 512 t (omega arith))
 pub blank-told : (t : ℕ) → t ≤ 511 → blankAnswer t ≡ blank.Blank (smallestFor stock t)
 unfolding blankAnswer
 blank-told t h = answered-none blank.Refused (noBlank t) (blank.Blank (smallestFor stock t)) (has-blank t h)
-
--- a ring is stored as two numbers a step
-pairs-length : (steps : List Step) → length (ringNumbers steps) ≡ 2 * length steps
-unfolding ringNumbers
-pairs-length steps = length-each 2 (λ (s : Step). s .net ∷ (s .column ∷ [])) steps (λ s. refl)
 
 -- what the lines of a refusal are, of a buffer whose front holds the ring
 tangled-text : (steps : List Step) (ring : List ℕ) → take (2 * length steps) ring ≡ ringNumbers steps → unroutedText (refusal.Tangled (length steps)) ring ≡ refusalLines steps (refusal.Tangled (length steps))

@@ -35,7 +35,7 @@ use Rattle.router.specs.Route.{ringShown, tangled, layoutDrawn, routeRef
 use Rattle.router.specs.Contract.{ShowsRing, HoldsLayout, RoutePromise}
 
 -- a ring is stored as two numbers a step
-pairs-length : (steps : List Step) → length (ringNumbers steps) ≡ 2 * length steps
+pub pairs-length : (steps : List Step) → length (ringNumbers steps) ≡ 2 * length steps
 unfolding ringNumbers
 pairs-length steps = length-each 2 (λ (s : Step). s .net ∷ (s .column ∷ [])) steps (λ s. refl)
 

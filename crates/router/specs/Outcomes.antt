@@ -16,6 +16,7 @@ use Rattle.refusal.specs.ChainLaws.{or-else-some, refuse-if-some, refuse-at-fir
 use Rattle.refusal.specs.Trays.{ringTray, boardTray}
 use Rattle.channel.specs.declared.RowsAnswer.the-variants as rows
 use Rattle.channel.specs.Channel.{Channel, width, spanning}
+use Rattle.channel.specs.BoundLaws.{refused→some}
 use Rattle.channel.specs.Answers.{tooWide, uneven, highNet, lonePin, rowsRefusal, rowsAnswer, Escapes}
 use Rattle.channel.specs.Spans.{each512, firsts, lasts}
 use Rattle.channel.specs.SpanLaws.{spanning→}
@@ -54,11 +55,6 @@ rows-number ch q e =
     (or-else-some (highNet ch) (lonePin ch) q (h .1)))
     (or-else-some (uneven ch) (highNet ch or-else lonePin ch) q (h .1)))
     (or-else-some (tooWide ch) (uneven ch or-else highNet ch or-else lonePin ch) q e)
-
-refused→some : (a : Option Refusal) (q : Refusal) → answered rows.Refused a rows.Accepted ≡ rows.Refused q → a ≡ some q
-unfolding answered
-refused→some none q e = absurd (let z : _≡_ {A = ℕ} 0 1 = cc in omega arith)
-refused→some (some r) q e = cc
 
 -- a fill that placed every net, on t tracks: the places are those of the definitions, and the array has their tracks
 pub record PlacedBy (ch : Channel) (t : ℕ) (tracks : List ℕ) : Type 0 where
