@@ -9,6 +9,7 @@ ghost use Rattle.leftedge.specs.Walk.{ringOf, ringNumbers};
 ghost use Rattle.leftedge.specs.Ring.{lowestDrop, netBelow, pairs, Confined, Trail};
 ghost use Rattle.leftedge.specs.Nets.{netItems};
 ghost use Rattle.leftedge.specs.Code.{WalkFrom};
+use grid::Net;
 
 // For each net number its lowest column that has a net without a track below it, 0 if there is none.
 fn lowest_drops(top: &[u32], bot: &[u32], tracks: &[u32; 512]) -> [u32; 512]
@@ -30,9 +31,9 @@ fn lowest_drops(top: &[u32], bot: &[u32], tracks: &[u32; 512]) -> [u32; 512]
 }
 
 // The lowest of the first `count` nets of `left`.
-fn lowest_net(left: &[u32; 512], count: usize) -> u32
+fn lowest_net(left: &[u32; 512], count: usize) -> Net
     requires { ⌜ (0 < count) × (count ≤ 512) × (count ≤ length (now left)) ⌝ }
-    ensures { λ r. ⌜ r ≡ least (take count (now (left .entry))) ⌝ }
+    ensures { λ r. ⌜ r .0 ≡ least (take count (now (left .entry))) ⌝ }
 {
     let mut least = left[0];
     let mut i: usize = 1;
@@ -42,7 +43,7 @@ fn lowest_net(left: &[u32; 512], count: usize) -> u32
         }
         i += 1;
     }
-    least
+    Net(least)
 }
 
 // Where a walk ends: the net that is met again, and the length of the trail.
@@ -56,15 +57,15 @@ struct Walked {
 fn walk_down(
     bot: &[u32],
     columns: &[u32; 512],
-    start: u32,
+    start: Net,
     trail: &mut [u32; 512],
     visits: &mut [u32; 512],
 ) -> Walked
-    requires { ⌜ Confined (now bot) (now columns) start × (length (now trail) ≡ 512) × (now visits ≡ replicate 512 0) ⌝ }
+    requires { ⌜ Confined (now bot) (now columns) (start .0) × (length (now trail) ≡ 512) × (now visits ≡ replicate 512 0) ⌝ }
     ensures { λ r.
-        ⌜ Trail (netBelow (now (bot .entry)) (now (columns .entry))) start (now (trail .exit)) (now (visits .exit)) (r .again) (r .steps) × (getD (now (visits .exit)) (r .again) 0 ≡ 0 → ⊥) ⌝ }
+        ⌜ Trail (netBelow (now (bot .entry)) (now (columns .entry))) (start .0) (now (trail .exit)) (now (visits .exit)) (r .again) (r .steps) × (getD (now (visits .exit)) (r .again) 0 ≡ 0 → ⊥) ⌝ }
 {
-    let mut n = start;
+    let mut n = start.0;
     let mut steps: usize = 0;
     while visits[n as usize] == 0 {
         trail[steps] = n;

@@ -11,13 +11,13 @@ use Rattle.leftedge.proofs.ring.walk_down.Statement.{statement}
 use Rattle.leftedge.proofs.ring.walk_down.Tie as tie
 
 abbrev Inv-loop : tie.InvT-loop
-Inv-loop bot columns start trail₀ visits₀ n₀ steps₀ trail visits n steps = Trail (netBelow bot columns) start trail visits n steps
+Inv-loop bot columns trail₀ visits₀ n₀ steps₀ trail visits n steps = Trail (netBelow bot columns) n₀ trail visits n steps
 
 abbrev μ-loop : tie.MeasureT-loop
-μ-loop bot columns start trail₀ visits₀ n₀ steps₀ trail visits n steps = 512 - steps
+μ-loop bot columns trail₀ visits₀ n₀ steps₀ trail visits n steps = 512 - steps
 
 loop-holds : tie.Need-loop-holds Inv-loop μ-loop
-loop-holds c = trail-start (netBelow (now (c .args .bot)) (now (c .args .columns))) (c .args .start) (now (c .args .trail)) (now (c .args .visits)) (c .pre .1) (c .pre .2)
+loop-holds c = trail-start (netBelow (now (c .args .bot)) (now (c .args .columns))) (c .args .start .0) (now (c .args .trail)) (now (c .args .visits)) (c .pre .1) (c .pre .2)
 
 -- the net is one of those that the walk never leaves
 record Known (bot columns : List ℕ) (n steps : ℕ) : Type 0 where
@@ -31,8 +31,8 @@ known c =
     let a = c .before .args in
     let l = c .loop in
     let p = c .before .pre .0 in
-    let column = trail-column (now (a .bot)) (now (a .columns)) (a .start) (p .0) (p .1) (l .trail) (l .visits) (l .n) (l .steps) (l .inv) in
-    record { low = trail-low (now (a .bot)) (now (a .columns)) (a .start) (p .0) (p .1) (l .trail) (l .visits) (l .n) (l .steps) (l .inv); short = trail-short (now (a .bot)) (now (a .columns)) (a .start) (p .0) (p .1) (l .trail) (l .visits) (l .n) (l .steps) (l .inv); first = column .0; last = column .1 }
+    let column = trail-column (now (a .bot)) (now (a .columns)) (a .start .0) (p .0) (p .1) (l .trail) (l .visits) (l .n) (l .steps) (l .inv) in
+    record { low = trail-low (now (a .bot)) (now (a .columns)) (a .start .0) (p .0) (p .1) (l .trail) (l .visits) (l .n) (l .steps) (l .inv); short = trail-short (now (a .bot)) (now (a .columns)) (a .start .0) (p .0) (p .1) (l .trail) (l .visits) (l .n) (l .steps) (l .inv); first = column .0; last = column .1 }
 
 cast-if1 : tie.Need-cast-if1 Inv-loop μ-loop
 cast-if1 c = omega (arith, known c)
@@ -94,7 +94,7 @@ loop-again c =
     let a = at-loop .before .args in
     let l = at-loop .loop in
     let p = at-loop .before .pre .0 in
-    trail-step (now (a .bot)) (now (a .columns)) (a .start) (p .0) (p .1) (l .trail) (l .visits) (l .n) (l .steps) (l .inv) (c .before .before .if1 .taken)
+    trail-step (now (a .bot)) (now (a .columns)) (a .start .0) (p .0) (p .1) (l .trail) (l .visits) (l .n) (l .steps) (l .inv) (c .before .before .if1 .taken)
 
 returns : tie.Need-returns Inv-loop μ-loop
 returns c = (c .before .before .loop .inv, c .if1 .left)
