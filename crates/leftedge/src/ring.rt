@@ -48,7 +48,7 @@ fn lowest_net(left: &[u32; 512], count: usize) -> Net
 
 // Where a walk ends: the net that is met again, and the length of the trail.
 struct Walked {
-    again: u32,
+    again: Net,
     steps: usize,
 }
 
@@ -63,7 +63,7 @@ fn walk_down(
 ) -> Walked
     requires { ⌜ Confined (now bot) (now columns) (start .0) × (length (now trail) ≡ 512) × (now visits ≡ replicate 512 0) ⌝ }
     ensures { λ r.
-        ⌜ Trail (netBelow (now (bot .entry)) (now (columns .entry))) (start .0) (now (trail .exit)) (now (visits .exit)) (r .again) (r .steps) × (getD (now (visits .exit)) (r .again) 0 ≡ 0 → ⊥) ⌝ }
+        ⌜ Trail (netBelow (now (bot .entry)) (now (columns .entry))) (start .0) (now (trail .exit)) (now (visits .exit)) (r .again .0) (r .steps) × (getD (now (visits .exit)) (r .again .0) 0 ≡ 0 → ⊥) ⌝ }
 {
     let mut n = start.0;
     let mut steps: usize = 0;
@@ -73,7 +73,10 @@ fn walk_down(
         visits[n as usize] = steps as u32;
         n = bot[columns[n as usize] as usize - 1];
     }
-    Walked { again: n, steps }
+    Walked {
+        again: Net(n),
+        steps,
+    }
 }
 
 // Stores the steps of the trail from place `from` on as pairs, net and column, at the front of `ring`.
@@ -120,7 +123,7 @@ pub fn show_ring(
         &mut trail,
         &mut visits,
     );
-    let again = walked.again;
+    let again = walked.again.0;
     let steps = walked.steps;
     let from = visits[again as usize] as usize - 1;
     store_pairs(&trail, &columns, from, steps, ring);

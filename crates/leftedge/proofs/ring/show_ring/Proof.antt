@@ -37,12 +37,12 @@ abbrev visits : tie.After-walk-down → List ℕ
 visits c = c .walk-down .last .1 .1 .1 .1 .0
 
 -- the trail shows the ring
-shown : (c : tie.After-walk-down) → Shows (ringOf (netItems (channelAt (entry c))) (leftAt (entry c))) (columns c) (trail c) (c .walk-down .result .again) (getD (visits c) (c .walk-down .result .again) 0) (c .walk-down .result .steps)
+shown : (c : tie.After-walk-down) → Shows (ringOf (netItems (channelAt (entry c))) (leftAt (entry c))) (columns c) (trail c) (c .walk-down .result .again .0) (getD (visits c) (c .walk-down .result .again .0) 0) (c .walk-down .result .steps)
 shown c =
     let a = entry c .args in
     let w = c .walk-down .result in
-    let walked = subst (λ (n : ℕ). Trail (netBelow (now (a .bot)) (columns c)) n (trail c) (visits c) (w .again) (w .steps)) (c .before .before .before .lowest-net .ensures) (c .walk-down .ensures .0) in
-    ring-shown (channelAt (entry c)) (now (a .tracks)) (now (a .left)) (a .count) (entry c .pre .0) (columns c) (c .before .before .before .before .before .lowest-drops .ensures) (trail c) (visits c) (w .again) (w .steps) walked (c .walk-down .ensures .1)
+    let walked = subst (λ (n : ℕ). Trail (netBelow (now (a .bot)) (columns c)) n (trail c) (visits c) (w .again .0) (w .steps)) (c .before .before .before .lowest-net .ensures) (c .walk-down .ensures .0) in
+    ring-shown (channelAt (entry c)) (now (a .tracks)) (now (a .left)) (a .count) (entry c .pre .0) (columns c) (c .before .before .before .before .before .lowest-drops .ensures) (trail c) (visits c) (w .again .0) (w .steps) walked (c .walk-down .ensures .1)
 
 lowest-drops-requires : tie.Need-lowest-drops-requires
 lowest-drops-requires c κs = search needs
