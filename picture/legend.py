@@ -1,0 +1,66 @@
+"""The legend: a small sample of each kind of shape in the picture, with its words, in as many lines as the sheet needs."""
+from svg import width_of
+
+WORDS = {
+    "trunk": "trunk side",
+    "branch": "branch side",
+    "contact": "contact: the sides are joined",
+    "crossing": "crossing: not joined",
+    "pin": "pin with its net",
+    "mark": "the place of the fault",
+    "refused": "the refused place",
+    "ring": "pin of the ring",
+    "piece": "floating piece",
+    "partner": "first pin of its net",
+    "above": "the upper net's trunk must lie above the lower net's",
+    "same": "the same net again",
+}
+SAMPLE = 26
+
+
+def draw_legend(sheet, kinds, width, y, unit):
+    """Answers where the next thing below may stand."""
+    size, x, margin = 12 * unit, 24 * unit, 24 * unit
+    with sheet.group("legend", font_size=size, stroke_width=4 * unit):
+        for kind in kinds:
+            room = (SAMPLE + 8) * unit + width_of(WORDS[kind], size) + 10 * unit
+            if x > margin and x + room > width - margin:
+                x, y = margin, y + 22 * unit
+            draw_sample(sheet, kind, x, y, unit)
+            sheet.text(x + (SAMPLE + 8) * unit, y + 4 * unit, WORDS[kind])
+            x += room
+    return y + 32 * unit
+
+
+def draw_sample(sheet, kind, x, y, u):
+    end, middle = x + SAMPLE * u, x + SAMPLE * u / 2
+    if kind in ("trunk", "contact", "crossing"):
+        sheet.add("line", class_="trunk", x1=x, y1=y, x2=end, y2=y)
+    if kind == "crossing":
+        sheet.add("line", class_="gap", x1=middle, y1=y - 9 * u, x2=middle, y2=y + 9 * u, stroke="#fcfcfa",
+                  stroke_width=9 * u)
+    if kind in ("contact", "crossing"):
+        sheet.add("line", class_="branch", x1=middle, y1=y - 9 * u, x2=middle, y2=y + 9 * u)
+    if kind == "branch":
+        sheet.add("line", class_="branch", x1=x, y1=y, x2=end, y2=y)
+    if kind == "contact":
+        sheet.add("circle", class_="contact", cx=middle, cy=y, r=4.5 * u)
+    if kind == "pin":
+        sheet.add("rect", class_="pin", x=middle - 5 * u, y=y - 5 * u, width=10 * u, height=10 * u)
+    if kind == "ring":
+        sheet.add("rect", class_="ring-pin", x=middle - 5 * u, y=y - 5 * u, width=10 * u, height=10 * u)
+    if kind in ("mark", "refused", "partner"):
+        sheet.add("circle", class_="partner" if kind == "partner" else "mark", cx=middle, cy=y, r=7 * u, stroke_width=2.2 * u)
+    if kind == "piece":
+        sheet.add("rect", class_="piece-mark", x=x, y=y - 6 * u, width=SAMPLE * u, height=12 * u, rx=5 * u, stroke_width=1.6 * u)
+    if kind == "above":
+        draw_arrow(sheet, middle, y - 9 * u, y + 9 * u, u)
+    if kind == "same":
+        sheet.add("line", class_="same", x1=x, y1=y, x2=end, y2=y, stroke_width=1.4 * u)
+
+
+def draw_arrow(sheet, x, high, low, unit):
+    """An arrow straight down, its head ending at the low place."""
+    sheet.add("line", class_="above", x1=x, y1=high, x2=x, y2=low - 6 * unit, stroke_width=2 * unit)
+    sheet.add("polygon", class_="head", stroke="none",
+              points=f"{x - 4.5 * unit:.2f},{low - 8 * unit:.2f} {x + 4.5 * unit:.2f},{low - 8 * unit:.2f} {x:.2f},{low:.2f}")

@@ -1,0 +1,111 @@
+"""Pictures of a refused pin list: a tangled one with its ring, or rows with the refused place marked."""
+from frame import Frame, labelled
+from legend import draw_arrow
+from scenes import status_of
+from svg import width_of
+
+WIDEST = 512
+PAIRS_SPELT = 6
+
+
+# A tangled list: the ring runs down each of its columns, and from there along a net to the next.
+
+def draw_ring(rows, verdict, words):
+    frame = Frame(rows, 0, column_step=84 if len(rows[0]) <= 10 else None, track_step=190)
+    title = f"width {frame.columns} · tangled: a ring of {verdict.place} nets"
+    frame.draw_title(title, status_of(verdict), False)
+    frame.draw_grid()
+    frame.draw_pins()
+    with frame.sheet.group("marks"):
+        for _, column in verdict.ring:
+            frame.band(column)
+        draw_same_nets(frame, verdict.ring)
+        for _, column in verdict.ring:
+            draw_step(frame, column)
+        draw_pills(frame, verdict.ring)
+    return frame.finish(title, ["pin", "ring", "above", "same"], [words] + spelt(verdict.ring))
+
+
+def onward(ring):
+    """Each pair of the ring with the next, the last with the first."""
+    return list(zip(ring, ring[1:] + ring[:1]))
+
+
+def draw_same_nets(frame, ring):
+    """From the lower pin of each column to the next column, where the same net is the upper one."""
+    for (_, column), (net, following) in onward(ring):
+        frame.sheet.add("line", f"net {net} again", class_="same", x1=frame.x(column), y1=frame.y(0), x2=frame.x(following),
+                        y2=frame.y(1), stroke_width=1.4 * frame.unit)
+
+
+def draw_step(frame, column):
+    """The two pins of a ring's column and the arrow from the upper to the lower."""
+    draw_arrow(frame.sheet, frame.x(column), frame.y(1), frame.y(0) - frame.pad / 2, min(1.3 * frame.unit, frame.dx / 10))
+    for row in (1, 0):
+        frame.sheet.add("rect", class_="ring-pin", x=frame.x(column) - frame.pad / 2, y=frame.y(row) - frame.pad / 2,
+                        width=frame.pad, height=frame.pad)
+
+
+def draw_pills(frame, ring):
+    """'a above b' on each arrow; turned where columns are narrow, and left out where even then two would overlap."""
+    size = 12 * frame.unit
+    steps = sorted((column, f"{net} above {lower}") for (net, column), (lower, _) in onward(ring))
+    long, high = max(width_of(words, size) for _, words in steps) + 8 * frame.unit, 1.7 * size
+    upright = long + 4 <= frame.dx
+    wide, tall = (long, high) if upright else (high, long)
+    free, y = 0, (frame.y(0) + frame.y(1)) / 2
+    with frame.sheet.group("pills", font_size=size):
+        for column, words in steps:
+            x = frame.x(column)
+            if x - wide / 2 < free:
+                continue
+            free = x + wide / 2
+            frame.sheet.add("rect", class_="pill", x=x - wide / 2, y=y - tall / 2, width=wide, height=tall, rx=0.4 * size)
+            write = frame.sheet.text if upright else frame.sheet.turned
+            across, down = (x, y + 0.36 * size) if upright else (x + 0.36 * size, y)
+            write(across, down, words, text_anchor="middle")
+
+
+def spelt(ring):
+    """The ring in words, in full if it is short."""
+    steps = [f"In column {column} net {net} is above net {lower}: its branch comes down from TOP and the other's comes up from BOT "
+             f"on the same side, so trunk {net} must lie above trunk {lower}." for (net, column), (lower, _) in onward(ring)]
+    if len(steps) > PAIRS_SPELT:
+        steps[PAIRS_SPELT:] = [f"And so on, through {len(ring)} columns in all."]
+    first = ring[0][0]
+    return steps + [f"Round the ring trunk {first} would have to lie above itself. So there is no board with one trunk a net."]
+
+
+# Rows that were made out but are refused.
+
+def draw_rows(rows, verdict, words):
+    """Rows far too wide are shown a little beyond the widest."""
+    shown = tuple(row[:WIDEST + 4] for row in rows)
+    frame = Frame(shown, 0, track_step=110)
+    title = f"TOP {len(rows[0])} columns · BOT {len(rows[1])} columns"
+    frame.draw_title(title, status_of(verdict), False)
+    frame.draw_grid()
+    frame.draw_pins()
+    places, more = refused_places(frame, rows, verdict)
+    with frame.sheet.group("marks"):
+        for column, row in places:
+            frame.band(column)
+            frame.circle_pin(column, row)
+    return frame.finish(title, ["pin", "refused"], [words, more])
+
+
+def refused_places(frame, rows, verdict):
+    """The columns and rows to mark for refusals 3 to 6, and what the caption adds."""
+    place = verdict.place
+    if verdict.number == 3:
+        places = [(place, 1 - i) for i, row in enumerate(rows) if len(row) >= place]
+        cut = max(map(len, rows)) - frame.columns
+        return places, f"Column {place} is the first too many." + (f" {cut} more are not drawn." if cut else "")
+    if verdict.number == 4:
+        row, side = (1, "TOP") if len(rows[0]) < len(rows[1]) else (0, "BOT")
+        return [(place, row)], f"{side} ends before column {place}, and the other row goes on."
+    if verdict.number == 5:
+        side, column, row = frame.pin_place(place)
+        return [(column, row)], f"That is the {side} pin of column {column}, with net {labelled((rows[0] + rows[1])[place - 1])}."
+    side, column, row = frame.pin_place((rows[0] + rows[1]).index(str(place)) + 1)
+    return [(column, row)], f"It is the {side} pin of column {column}; a net joins two pins or more."

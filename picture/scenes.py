@@ -1,0 +1,113 @@
+"""Pictures of a board: its copper over the channel's pins, with a fault marked if the judge found one."""
+from frame import Frame
+from inputs import board_of, piece_of
+
+COPPER = ["trunk", "branch", "contact", "crossing", "pin"]
+WORDS = {0: "too long", 2: "garbled", 3: "too wide", 4: "uneven", 5: "high net", 6: "lone pin", 7: "tangled", 8: "torn",
+         9: "bad field", 10: "wrong board", 11: "short", 12: "open", 13: "floating"}
+
+
+def status_of(verdict):
+    """The judge's or router's line, with the shop's word."""
+    if verdict.word == "GOOD":
+        return "GOOD"
+    return f"REFUSED {verdict.number} {verdict.place}: {WORDS.get(verdict.number, 'refused')}"
+
+
+def title_of(board, facts):
+    """Blank, density and chain are the listing's; a board file with other tracks than the router's says so."""
+    if facts is None:
+        return f"width {board.width} · tracks {board.tracks} · tangled list, so no blank, density or chain"
+    own = facts.tracks == board.tracks
+    blank = f"blank {facts.blank}" if own else f"the router's {facts.tracks} on blank {facts.blank}"
+    return f"width {board.width} · tracks {board.tracks} · {blank} · density {facts.density} · chain {facts.chain}"
+
+
+def described(piece):
+    """A piece in words, also one out of range."""
+    if piece.kind == "trunk":
+        return f"trunk, track {piece.line}, columns {piece.start} to {piece.end}"
+    if piece.kind == "branch":
+        return f"branch, column {piece.line}, rows {piece.start} to {piece.end}"
+    if piece.kind == "contact" and piece.start == piece.end:
+        return f"contact, column {piece.line}, track {piece.start}"
+    return f"{piece.kind}, line {piece.line}, from {piece.start}, to {piece.end}"
+
+
+def ends_of(frame, piece):
+    """Where the piece's first and last point stand on the sheet."""
+    if piece.kind == "trunk":
+        return frame.x(piece.start), frame.y(piece.line), frame.x(piece.end), frame.y(piece.line)
+    return frame.x(piece.line), frame.y(piece.start), frame.x(piece.line), frame.y(piece.end)
+
+
+def draw_copper(frame, pieces):
+    """Trunks, then a gap under every branch, then branches and contacts: a crossing shows as one line passing over the other."""
+    sheet = frame.sheet
+    order = [(number, piece) for kind in ("trunk", "branch", "contact")
+             for number, piece in enumerate(pieces, 1) if piece.kind == kind]
+    gaps = [f"M{x1:.2f} {y1:.2f}V{y2:.2f}" for x1, y1, _, y2 in (ends_of(frame, p) for p in pieces if p.kind == "branch")]
+    with sheet.group("copper", stroke_width=frame.copper):
+        for number, piece in order:
+            if gaps and piece.kind != "trunk":
+                sheet.add("path", class_="halo", stroke_width=2.1 * frame.copper, d="".join(gaps))
+                gaps = []
+            x1, y1, x2, y2 = ends_of(frame, piece)
+            words = f"piece {number}: {described(piece)}"
+            if piece.kind == "contact":
+                sheet.add("circle", words, class_="contact", cx=x1, cy=y1, r=1.15 * frame.copper)
+            else:
+                sheet.add("line", words, class_=piece.kind, x1=x1, y1=y1, x2=x2, y2=y2)
+
+
+def mark_pin(frame, verdict):
+    """Circles the pin of a short or an open; answers what the caption and the legend add."""
+    side, column, row = frame.pin_place(verdict.place)
+    pins = frame.rows[0] + frame.rows[1]
+    net = pins[verdict.place - 1]
+    frame.band(column)
+    frame.circle_pin(column, row)
+    words = f"Position {verdict.place} is the {side} pin of column {column}, of net {net}."
+    if verdict.number == 11:
+        return words, ["mark"]
+    first_side, first_column, first_row = frame.pin_place(pins.index(net) + 1)
+    frame.circle_pin(first_column, first_row, "partner")
+    return f"{words} Net {net}'s first pin is the {first_side} pin of column {first_column}.", ["mark", "partner"]
+
+
+def mark_piece(frame, verdict, pieces):
+    piece, u = pieces[verdict.place - 1], frame.unit
+    x1, y1, x2, y2 = ends_of(frame, piece)
+    around = max(1.5 * frame.copper, 5 * u)
+    frame.sheet.add("rect", class_="piece-mark", x=x1 - around, y=y2 - around, width=x2 - x1 + 2 * around,
+                    height=y1 - y2 + 2 * around, rx=around, stroke_width=1.6 * u)
+    return f"Piece {verdict.place} of the file is this: {described(piece)}.", ["piece"]
+
+
+def draw_board(rows, board_bytes, facts, verdict, words):
+    """A board that the judge called good, or in which it found a short, an open or floating copper."""
+    board = board_of(board_bytes)
+    frame, title = Frame(rows, board.tracks), title_of(board, facts)
+    frame.draw_title(title, status_of(verdict), verdict.word == "GOOD")
+    frame.draw_grid()
+    frame.draw_pins()
+    draw_copper(frame, board.pieces)
+    kinds, sentences = list(COPPER), [words]
+    if verdict.word != "GOOD":
+        with frame.sheet.group("marks"):
+            more, marks = mark_piece(frame, verdict, board.pieces) if verdict.number == 13 else mark_pin(frame, verdict)
+        kinds, sentences = kinds + marks, [words, more]
+    return frame.finish(title, kinds, sentences)
+
+
+def draw_pins_only(rows, board_bytes, verdict, words):
+    """A board file that does not open, or that is for another width: there is no copper to show."""
+    frame = Frame(rows, 0, track_step=110)
+    title = f"width {frame.columns} · no board"
+    frame.draw_title(title, status_of(verdict), False)
+    frame.draw_grid()
+    frame.draw_pins()
+    sentences = [words]
+    if verdict.number == 9 and verdict.place:
+        sentences.append(f"Piece {verdict.place} of the file reads: {described(piece_of(board_bytes, verdict.place))}.")
+    return frame.finish(title, ["pin"], sentences)

@@ -1,0 +1,81 @@
+"""A sheet that collects SVG shapes as text, with escaping, and the colours that all pictures share.
+
+Blue, orange and near black stay apart for colour-blind readers; marks are magenta and, besides, dashed or ringed.
+"""
+from contextlib import contextmanager
+from xml.sax.saxutils import escape, quoteattr
+
+STYLE = """
+text { font-family: 'DejaVu Sans', Verdana, Arial, sans-serif; fill: #1d2733 }
+.title, .net { font-weight: bold }
+.paper { fill: #fcfcfa }
+.board { fill: #eff2f0; stroke: #8d989c }
+.column, .track { stroke: #cdd5d8 }
+.column-number, .track-number, .side { fill: #5b676d }
+.no-pin { fill: #a9b2b6 }
+.pin { fill: #46525a }
+.trunk { stroke: #0f6cab; stroke-linecap: round }
+.halo { stroke: #eff2f0; fill: none; stroke-linecap: square }
+.branch { stroke: #e58613 }
+.contact { fill: #14181b }
+.good { fill: #0f6cab; font-weight: bold }
+.bad { fill: #a8005c; font-weight: bold }
+.band { fill: #a8005c; fill-opacity: 0.13 }
+.ring-pin { fill: #a8005c }
+.mark { fill: none; stroke: #a8005c }
+.piece-mark { fill: #a8005c; fill-opacity: 0.1; stroke: #a8005c; stroke-dasharray: 6 3 }
+.partner { fill: none; stroke: #a8005c; stroke-dasharray: 3 3 }
+.above { stroke: #a8005c; fill: none }
+.head { fill: #a8005c }
+.same { stroke: #5b676d; fill: none; stroke-dasharray: 5 4 }
+.pill { fill: #ffffff; stroke: #a8005c }
+.cell { fill: #eff2f0; stroke: #cdd5d8 }
+.byte { font-family: 'DejaVu Sans Mono', Consolas, monospace }
+"""
+
+
+def short(value):
+    """A number with at most two decimals, as briefly as it can be written."""
+    return f"{value:.2f}".rstrip("0").rstrip(".") if isinstance(value, float) else str(value)
+
+
+def width_of(words, size):
+    """About how wide a text is; no font is measured, so this is on the wide side."""
+    return 0.61 * size * len(words)
+
+
+class Sheet:
+    """Shapes in the order in which they are painted."""
+
+    def __init__(self):
+        self.parts = []
+
+    def _open(self, name, attributes):
+        written = "".join(f" {key.rstrip('_').replace('_', '-')}={quoteattr(short(value))}"
+                          for key, value in attributes.items())
+        return f"<{name}{written}"
+
+    def add(self, name, title=None, **attributes):
+        """A shape; `class_` is its class, and an underscore inside a name stands for a hyphen. The title shows when pointed at."""
+        end = "/>" if title is None else f"><title>{escape(title)}</title></{name}>"
+        self.parts.append(self._open(name, attributes) + end)
+
+    def text(self, x, y, words, **attributes):
+        self.parts.append(f"{self._open('text', dict(x=x, y=y, **attributes))}>{escape(words)}</text>")
+
+    def turned(self, x, y, words, **attributes):
+        """A text that reads upwards from its place."""
+        self.text(x, y, words, transform=f"rotate(-90 {short(x)} {short(y)})", **attributes)
+
+    @contextmanager
+    def group(self, class_, **attributes):
+        self.parts.append(self._open("g", dict(class_=class_, **attributes)) + ">")
+        yield
+        self.parts.append("</g>")
+
+    def document(self, width, height, title):
+        """The whole file, on its own background so that it reads on light and dark pages."""
+        size = f'width="{short(width)}" height="{short(height)}" viewBox="0 0 {short(width)} {short(height)}"'
+        return "\n".join([f'<svg xmlns="http://www.w3.org/2000/svg" {size} role="img">', f"<title>{escape(title)}</title>",
+                          f"<style>{STYLE}</style>", '<rect class="paper" width="100%" height="100%"/>',
+                          *self.parts, "</svg>", ""])
