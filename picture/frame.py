@@ -5,7 +5,7 @@ A frame without tracks has its two pin rows one tall step apart.
 import textwrap
 
 from legend import draw_legend
-from svg import Sheet, width_of
+from svg import Sheet, digits_wide
 
 NARROWEST = 640  # the width of a sheet at which legend and caption still read well
 COLUMN_STEPS = ((14, 48), (28, 36), (56, 24), (110, 16), (220, 12))
@@ -20,7 +20,7 @@ def step(table, count, least):
 def thinned(count, size, room):
     """Which of the numbers 1 to count get a label: all, or the multiples of the least round number that leaves them room."""
     every = next(n for n in (1, 2, 5, 10, 20, 50, 100, 200, 500) if n * size >= room)
-    return [n for n in range(1, count + 1) if n % every == 0 or (n == 1 and every < 5)]
+    return [n for n in range(1, count + 1) if n % every == 0 or (n == 1 and every >= 5)]
 
 
 def labelled(net):
@@ -39,17 +39,17 @@ class Frame:
         self.pad = min(0.34 * self.dx, 13)
         self._measure_labels()
         across = self.columns * self.dx
-        self.width = max(NARROWEST, across + 116 * self.unit)
-        self.left = max(66 * self.unit, (self.width - across) / 2)
+        self.width = max(NARROWEST, across + 108 * self.unit)
+        self.left = max(80 * self.unit, (self.width - across) / 2)
         self.top = 78 * self.unit + self.label_room + self.pad / 2
         self.copper = max(1.6, min(7, 0.19 * min(self.dx, self.dy)))
 
     def _measure_labels(self):
         """Net numbers stand upright where columns are wide enough for the longest, else they are turned."""
         longest = max(len(labelled(net)) for row in self.rows for net in row)
-        self.upright = width_of("0" * longest, 14) + 3 <= self.dx
+        self.upright = digits_wide(longest, 14) + 3 <= self.dx
         self.label_size = 14 if self.upright else min(13, 0.8 * self.dx)
-        self.label_room = 20 if self.upright else width_of("0" * longest, self.label_size) + 7
+        self.label_room = 20 if self.upright else digits_wide(longest, self.label_size) + 7
 
     def x(self, column):
         return self.left + (column - 0.5) * self.dx
@@ -78,7 +78,7 @@ class Frame:
             for t in range(1, self.tracks + 1):
                 sheet.add("line", class_="track", x1=self.left, y1=self.y(t), x2=right, y2=self.y(t))
         with sheet.group("numbers", font_size=10.5 * u):
-            room = width_of("0" * len(str(self.columns)), 10.5 * u) + 5 * u
+            room = digits_wide(len(str(self.columns)), 10.5 * u) + 5 * u
             for c in thinned(self.columns, self.dx, room):
                 sheet.text(self.x(c), 70 * u, str(c), class_="column-number", text_anchor="middle")
             for t in thinned(self.tracks, self.dy, 14 * u):
@@ -86,7 +86,7 @@ class Frame:
         self._draw_sides()
 
     def _draw_sides(self):
-        u, edge = self.unit, self.left - 26 * self.unit
+        u, edge = self.unit, self.left - 32 * self.unit
         with self.sheet.group("sides", font_size=10.5 * u):
             self.sheet.text(edge, 70 * u, "column", class_="side", text_anchor="end")
             self.sheet.text(edge, self.y(self.tracks + 1) + 4 * u, "TOP", class_="side", text_anchor="end")
@@ -116,16 +116,21 @@ class Frame:
             self.sheet.turned(x + 0.36 * self.label_size, away, net, class_=style,
                               text_anchor="end" if side > 0 else "start")
 
-    def band(self, column):
-        """Tints a column from its TOP label to its BOT label."""
+    def draw_bands(self, columns):
+        """Tints columns from the TOP label to the BOT label."""
         high = self.y(self.tracks + 1) - self.pad / 2 - self.label_room
-        self.sheet.add("rect", class_="band", x=self.x(column) - self.dx / 2, y=high, width=self.dx,
-                       height=self.y(0) + self.pad / 2 + self.label_room - high)
+        low = self.y(0) + self.pad / 2 + self.label_room
+        with self.sheet.group("bands"):
+            for column in sorted(set(columns)):
+                self.sheet.add("rect", class_="band", x=self.x(column) - self.dx / 2, y=high, width=self.dx, height=low - high)
 
-    def circle_pin(self, column, row, class_="mark"):
-        """A circle round a pin's place, large enough to be found on a sheet shown small."""
-        size = max(0.75 * self.pad + 3, 7 * self.unit)
-        self.sheet.add("circle", class_=class_, cx=self.x(column), cy=self.y(row), r=size, stroke_width=2.2 * self.unit)
+    def mark_pin(self, column, row, class_="mark"):
+        """A box round a pin's place and its net, large enough to be found on a sheet shown small."""
+        half = max(0.4 * self.dx, self.pad / 2 + 3, 5 * self.unit)
+        inner = max(self.pad / 2 + 4, half / 2)
+        outer = self.pad / 2 + self.label_room + 3
+        self.sheet.add("rect", class_=class_, x=self.x(column) - half, y=self.y(row) - (inner if row == 0 else outer),
+                       width=2 * half, height=inner + outer, rx=half / 3, stroke_width=2.2 * self.unit)
 
     def finish(self, title, kinds, sentences):
         """Legend and caption; answers the whole file."""
@@ -139,6 +144,7 @@ def finished(sheet, width, below, unit, title, sentences):
     size = 13 * unit
     with sheet.group("caption", font_size=size):
         for sentence in sentences:
+            sentence = sentence[0].upper() + sentence[1:].rstrip(".") + "."
             for line in textwrap.wrap(sentence, int((width - 48 * unit) / (0.57 * size))):
                 sheet.text(24 * unit, below, line)
                 below += 19 * unit

@@ -1,5 +1,5 @@
 """The legend: a small sample of each kind of shape in the picture, with its words, in as many lines as the sheet needs."""
-from svg import width_of
+from svg import words_wide
 
 WORDS = {
     "trunk": "trunk side",
@@ -23,7 +23,7 @@ def draw_legend(sheet, kinds, width, y, unit):
     size, x, margin = 12 * unit, 24 * unit, 24 * unit
     with sheet.group("legend", font_size=size, stroke_width=4 * unit):
         for kind in kinds:
-            room = (SAMPLE + 8) * unit + width_of(WORDS[kind], size) + 10 * unit
+            room = (SAMPLE + 8) * unit + words_wide(WORDS[kind], size) + 14 * unit
             if x > margin and x + room > width - margin:
                 x, y = margin, y + 22 * unit
             draw_sample(sheet, kind, x, y, unit)
@@ -37,8 +37,7 @@ def draw_sample(sheet, kind, x, y, u):
     if kind in ("trunk", "contact", "crossing"):
         sheet.add("line", class_="trunk", x1=x, y1=y, x2=end, y2=y)
     if kind == "crossing":
-        sheet.add("line", class_="gap", x1=middle, y1=y - 9 * u, x2=middle, y2=y + 9 * u, stroke="#fcfcfa",
-                  stroke_width=9 * u)
+        sheet.add("line", class_="paper-gap", x1=middle, y1=y - 9 * u, x2=middle, y2=y + 9 * u, stroke_width=7 * u)
     if kind in ("contact", "crossing"):
         sheet.add("line", class_="branch", x1=middle, y1=y - 9 * u, x2=middle, y2=y + 9 * u)
     if kind == "branch":
@@ -50,7 +49,8 @@ def draw_sample(sheet, kind, x, y, u):
     if kind == "ring":
         sheet.add("rect", class_="ring-pin", x=middle - 5 * u, y=y - 5 * u, width=10 * u, height=10 * u)
     if kind in ("mark", "refused", "partner"):
-        sheet.add("circle", class_="partner" if kind == "partner" else "mark", cx=middle, cy=y, r=7 * u, stroke_width=2.2 * u)
+        sheet.add("rect", class_="partner" if kind == "partner" else "mark", x=middle - 6 * u, y=y - 9 * u, width=12 * u,
+                  height=18 * u, rx=3 * u, stroke_width=2 * u)
     if kind == "piece":
         sheet.add("rect", class_="piece-mark", x=x, y=y - 6 * u, width=SAMPLE * u, height=12 * u, rx=5 * u, stroke_width=1.6 * u)
     if kind == "above":

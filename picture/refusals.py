@@ -2,7 +2,7 @@
 from frame import Frame, labelled
 from legend import draw_arrow
 from scenes import status_of
-from svg import width_of
+from svg import words_wide
 
 WIDEST = 512
 PAIRS_SPELT = 6
@@ -15,10 +15,9 @@ def draw_ring(rows, verdict, words):
     title = f"width {frame.columns} · tangled: a ring of {verdict.place} nets"
     frame.draw_title(title, status_of(verdict), False)
     frame.draw_grid()
+    frame.draw_bands(column for _, column in verdict.ring)
     frame.draw_pins()
     with frame.sheet.group("marks"):
-        for _, column in verdict.ring:
-            frame.band(column)
         draw_same_nets(frame, verdict.ring)
         for _, column in verdict.ring:
             draw_step(frame, column)
@@ -50,7 +49,7 @@ def draw_pills(frame, ring):
     """'a above b' on each arrow; turned where columns are narrow, and left out where even then two would overlap."""
     size = 12 * frame.unit
     steps = sorted((column, f"{net} above {lower}") for (net, column), (lower, _) in onward(ring))
-    long, high = max(width_of(words, size) for _, words in steps) + 8 * frame.unit, 1.7 * size
+    long, high = max(words_wide(words, size) for _, words in steps) + 8 * frame.unit, 1.7 * size
     upright = long + 4 <= frame.dx
     wide, tall = (long, high) if upright else (high, long)
     free, y = 0, (frame.y(0) + frame.y(1)) / 2
@@ -68,12 +67,12 @@ def draw_pills(frame, ring):
 
 def spelt(ring):
     """The ring in words, in full if it is short."""
-    steps = [f"In column {column} net {net} is above net {lower}: its branch comes down from TOP and the other's comes up from BOT "
-             f"on the same side, so trunk {net} must lie above trunk {lower}." for (net, column), (lower, _) in onward(ring)]
+    steps = [f"Column {column}: net {net}'s branch comes down from TOP and net {lower}'s up from BOT, on one side of the board. So "
+             f"that they do not meet, trunk {net} must lie above trunk {lower}." for (net, column), (lower, _) in onward(ring)]
     if len(steps) > PAIRS_SPELT:
         steps[PAIRS_SPELT:] = [f"And so on, through {len(ring)} columns in all."]
     first = ring[0][0]
-    return steps + [f"Round the ring trunk {first} would have to lie above itself. So there is no board with one trunk a net."]
+    return steps + [f"Trunk {first} would then have to lie above itself. So there is no board with one trunk a net."]
 
 
 # Rows that were made out but are refused.
@@ -85,12 +84,12 @@ def draw_rows(rows, verdict, words):
     title = f"TOP {len(rows[0])} columns · BOT {len(rows[1])} columns"
     frame.draw_title(title, status_of(verdict), False)
     frame.draw_grid()
-    frame.draw_pins()
     places, more = refused_places(frame, rows, verdict)
+    frame.draw_bands(column for column, _ in places)
+    frame.draw_pins()
     with frame.sheet.group("marks"):
         for column, row in places:
-            frame.band(column)
-            frame.circle_pin(column, row)
+            frame.mark_pin(column, row)
     return frame.finish(title, ["pin", "refused"], [words, more])
 
 

@@ -41,38 +41,49 @@ def ends_of(frame, piece):
     return frame.x(piece.line), frame.y(piece.start), frame.x(piece.line), frame.y(piece.end)
 
 
+def draw_gaps(frame, branches):
+    """The board's own colour around every branch, so that trunks below seem cut; ends inside the board get it too."""
+    margin = max(0.7, min(2.5, 0.36 * frame.copper))
+    gaps = []
+    for x, y1, _, y2 in (ends_of(frame, branch) for branch in branches):
+        low, high = min(y1 + margin, frame.y(0)), max(y2 - margin, frame.y(frame.tracks + 1))
+        gaps.append(f"M{x:.2f} {low:.2f}V{high:.2f}")
+    if gaps:
+        frame.sheet.add("path", class_="gap", stroke_width=frame.copper + 2 * margin, d="".join(gaps))
+
+
 def draw_copper(frame, pieces):
-    """Trunks, then a gap under every branch, then branches and contacts: a crossing shows as one line passing over the other."""
-    sheet = frame.sheet
-    order = [(number, piece) for kind in ("trunk", "branch", "contact")
-             for number, piece in enumerate(pieces, 1) if piece.kind == kind]
-    gaps = [f"M{x1:.2f} {y1:.2f}V{y2:.2f}" for x1, y1, _, y2 in (ends_of(frame, p) for p in pieces if p.kind == "branch")]
-    with sheet.group("copper", stroke_width=frame.copper):
-        for number, piece in order:
-            if gaps and piece.kind != "trunk":
-                sheet.add("path", class_="halo", stroke_width=2.1 * frame.copper, d="".join(gaps))
-                gaps = []
-            x1, y1, x2, y2 = ends_of(frame, piece)
-            words = f"piece {number}: {described(piece)}"
-            if piece.kind == "contact":
-                sheet.add("circle", words, class_="contact", cx=x1, cy=y1, r=1.15 * frame.copper)
-            else:
-                sheet.add("line", words, class_=piece.kind, x1=x1, y1=y1, x2=x2, y2=y2)
+    """Trunks, then gaps, branches and contacts: a crossing shows as one line passing over the other."""
+    numbered = list(enumerate(pieces, 1))
+    with frame.sheet.group("copper", stroke_width=frame.copper):
+        for kind in ("trunk", "branch", "contact"):
+            if kind == "branch":
+                draw_gaps(frame, [piece for piece in pieces if piece.kind == "branch"])
+            for number, piece in numbered:
+                if piece.kind == kind:
+                    draw_piece(frame, piece, f"piece {number}: {described(piece)}")
 
 
-def mark_pin(frame, verdict):
-    """Circles the pin of a short or an open; answers what the caption and the legend add."""
+def draw_piece(frame, piece, words):
+    x1, y1, x2, y2 = ends_of(frame, piece)
+    if piece.kind == "contact":
+        frame.sheet.add("circle", words, class_="contact", cx=x1, cy=y1, r=1.15 * frame.copper)
+    else:
+        frame.sheet.add("line", words, class_=piece.kind, x1=x1, y1=y1, x2=x2, y2=y2)
+
+
+def mark_pins(frame, verdict):
+    """Boxes the pin of a short or an open; answers what the legend and the caption add."""
     side, column, row = frame.pin_place(verdict.place)
     pins = frame.rows[0] + frame.rows[1]
     net = pins[verdict.place - 1]
-    frame.band(column)
-    frame.circle_pin(column, row)
+    frame.mark_pin(column, row)
     words = f"Position {verdict.place} is the {side} pin of column {column}, of net {net}."
     if verdict.number == 11:
-        return words, ["mark"]
+        return ["mark"], words
     first_side, first_column, first_row = frame.pin_place(pins.index(net) + 1)
-    frame.circle_pin(first_column, first_row, "partner")
-    return f"{words} Net {net}'s first pin is the {first_side} pin of column {first_column}.", ["mark", "partner"]
+    frame.mark_pin(first_column, first_row, "partner")
+    return ["mark", "partner"], f"{words} Net {net}'s first pin is the {first_side} pin of column {first_column}."
 
 
 def mark_piece(frame, verdict, pieces):
@@ -81,7 +92,7 @@ def mark_piece(frame, verdict, pieces):
     around = max(1.5 * frame.copper, 5 * u)
     frame.sheet.add("rect", class_="piece-mark", x=x1 - around, y=y2 - around, width=x2 - x1 + 2 * around,
                     height=y1 - y2 + 2 * around, rx=around, stroke_width=1.6 * u)
-    return f"Piece {verdict.place} of the file is this: {described(piece)}.", ["piece"]
+    return ["piece"], f"Piece {verdict.place} of the file: {described(piece)}."
 
 
 def draw_board(rows, board_bytes, facts, verdict, words):
@@ -90,12 +101,14 @@ def draw_board(rows, board_bytes, facts, verdict, words):
     frame, title = Frame(rows, board.tracks), title_of(board, facts)
     frame.draw_title(title, status_of(verdict), verdict.word == "GOOD")
     frame.draw_grid()
-    frame.draw_pins()
+    if verdict.number in (11, 12):
+        frame.draw_bands([frame.pin_place(verdict.place)[1]])
     draw_copper(frame, board.pieces)
+    frame.draw_pins()
     kinds, sentences = list(COPPER), [words]
     if verdict.word != "GOOD":
         with frame.sheet.group("marks"):
-            more, marks = mark_piece(frame, verdict, board.pieces) if verdict.number == 13 else mark_pin(frame, verdict)
+            marks, more = mark_piece(frame, verdict, board.pieces) if verdict.number == 13 else mark_pins(frame, verdict)
         kinds, sentences = kinds + marks, [words, more]
     return frame.finish(title, kinds, sentences)
 

@@ -15,7 +15,8 @@ text { font-family: 'DejaVu Sans', Verdana, Arial, sans-serif; fill: #1d2733 }
 .no-pin { fill: #a9b2b6 }
 .pin { fill: #46525a }
 .trunk { stroke: #0f6cab; stroke-linecap: round }
-.halo { stroke: #eff2f0; fill: none; stroke-linecap: square }
+.gap { stroke: #eff2f0; fill: none }
+.paper-gap { stroke: #fcfcfa }
 .branch { stroke: #e58613 }
 .contact { fill: #14181b }
 .good { fill: #0f6cab; font-weight: bold }
@@ -39,9 +40,14 @@ def short(value):
     return f"{value:.2f}".rstrip("0").rstrip(".") if isinstance(value, float) else str(value)
 
 
-def width_of(words, size):
-    """About how wide a text is; no font is measured, so this is on the wide side."""
-    return 0.61 * size * len(words)
+def words_wide(words, size):
+    """About how wide a text is; no font is measured."""
+    return 0.55 * size * len(words)
+
+
+def digits_wide(count, size):
+    """As wide as so many bold digits are in a wide font."""
+    return 0.68 * size * count
 
 
 class Sheet:
