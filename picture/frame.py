@@ -1,11 +1,11 @@
-"""The frame of every channel picture: title, column and track numbers, the grid, the pins, and below them legend and caption.
+"""The frame of every channel picture: title, numbered grid and pins, and below them legend and caption.
 
 A frame without tracks has its two pin rows one tall step apart.
 """
 import textwrap
 
 from legend import draw_legend
-from svg import Sheet, digits_wide
+from svg import Sheet, dashes, digits_wide
 
 NARROWEST = 640  # the width of a sheet at which legend and caption still read well
 COLUMN_STEPS = ((14, 48), (28, 36), (56, 24), (110, 16), (220, 12))
@@ -18,7 +18,7 @@ def step(table, count, least):
 
 
 def thinned(count, size, room):
-    """Which of the numbers 1 to count get a label: all, or the multiples of the least round number that leaves them room."""
+    """Which of the numbers 1 to count get a label: all, or multiples of a round number that leaves them room."""
     every = next(n for n in (1, 2, 5, 10, 20, 50, 100, 200, 500) if n * size >= room)
     return [n for n in range(1, count + 1) if n % every == 0 or (n == 1 and every >= 5)]
 
@@ -33,7 +33,7 @@ class Frame:
         self.rows, self.tracks, self.sheet = rows, tracks, Sheet()
         self.columns = max(map(len, rows))
         self.dx = column_step or step(COLUMN_STEPS, self.columns, 9)
-        self.unit = max(1.0, self.columns * self.dx / 1100)  # texts grow with the sheet, to be read when it is shown small
+        self.unit = max(1.0, self.columns * self.dx / 1100)  # texts grow with the sheet, which may be shown small
         self.dy = track_step or step(TRACK_STEPS, tracks, 7)
         self.dy *= 1 if tracks else self.unit
         self.pad = min(0.34 * self.dx, 13)
@@ -63,9 +63,9 @@ class Frame:
         return ("TOP", position, self.tracks + 1) if position <= w else ("BOT", position - w, 0)
 
     def draw_title(self, title, status, good):
-        u, middle = self.unit, self.width / 2
+        u, middle, style = self.unit, self.width / 2, "good" if good else "bad"
         self.sheet.text(middle, 26 * u, title, class_="title", font_size=16 * u, text_anchor="middle")
-        self.sheet.text(middle, 46 * u, status, class_="good" if good else "bad", font_size=13 * u, text_anchor="middle")
+        self.sheet.text(middle, 46 * u, status, class_=style, font_size=13 * u, text_anchor="middle")
 
     def draw_grid(self):
         """The board with a light line for each column and track, numbered where numbers have room."""
@@ -122,15 +122,17 @@ class Frame:
         low = self.y(0) + self.pad / 2 + self.label_room
         with self.sheet.group("bands"):
             for column in sorted(set(columns)):
-                self.sheet.add("rect", class_="band", x=self.x(column) - self.dx / 2, y=high, width=self.dx, height=low - high)
+                self.sheet.add("rect", class_="band", x=self.x(column) - self.dx / 2, y=high, width=self.dx,
+                               height=low - high)
 
     def mark_pin(self, column, row, class_="mark"):
-        """A box round a pin's place and its net, large enough to be found on a sheet shown small."""
+        """A box round a pin and its net, large enough to be found on a sheet shown small; a partner's is dashed."""
         half = max(0.4 * self.dx, self.pad / 2 + 3, 5 * self.unit)
         inner = max(self.pad / 2 + 4, half / 2)
         outer = self.pad / 2 + self.label_room + 3
         self.sheet.add("rect", class_=class_, x=self.x(column) - half, y=self.y(row) - (inner if row == 0 else outer),
-                       width=2 * half, height=inner + outer, rx=half / 3, stroke_width=2.2 * self.unit)
+                       width=2 * half, height=inner + outer, rx=half / 3, stroke_width=2.2 * self.unit,
+                       stroke_dasharray=dashes(self.unit) if class_ == "partner" else "none")
 
     def finish(self, title, kinds, sentences):
         """Legend and caption; answers the whole file."""
@@ -143,7 +145,7 @@ def finished(sheet, width, below, unit, title, sentences):
     """Writes the caption, wrapped to the sheet, and ends the picture below it."""
     size = 13 * unit
     with sheet.group("caption", font_size=size):
-        for sentence in sentences:
+        for sentence in filter(None, sentences):
             sentence = sentence[0].upper() + sentence[1:].rstrip(".") + "."
             for line in textwrap.wrap(sentence, int((width - 48 * unit) / (0.57 * size))):
                 sheet.text(24 * unit, below, line)

@@ -13,44 +13,50 @@ def glyph(byte):
 
 
 def line_around(text, place):
-    """The line's number, the offset of its first shown byte, and the bytes shown."""
+    """The line's number, the offset of its first shown byte, the bytes shown, and whether it is cut at either side."""
     start = text.rfind(b"\n", 0, place) + 1
     end = text.find(b"\n", place) + 1 or len(text)
-    shown = max(start, place - BEFORE)
-    return text.count(b"\n", 0, place) + 1, shown, text[shown:min(end, place + AFTER + 1)], shown > start, end > place + AFTER + 1
+    shown, last = max(start, place - BEFORE), min(end, place + AFTER + 1)
+    return text.count(b"\n", 0, place) + 1, shown, text[shown:last], shown > start, last < end
 
 
 def draw_text(text, verdict, words):
-    number, shown, line, cut_left, cut_right = line_around(text, verdict.place)
-    sheet, at_end = Sheet(), verdict.place >= len(text)
+    place, sheet = verdict.place, Sheet()
+    number, shown, line, cut_left, cut_right = line_around(text, place)
     title = f"line {number} of the text"
     sheet.text(NARROWEST / 2, 26, title, class_="title", font_size=16, text_anchor="middle")
     sheet.text(NARROWEST / 2, 46, status_of(verdict), class_="bad", font_size=13, text_anchor="middle")
     with sheet.group("line"):
         for i, byte in enumerate(line):
             draw_cell(sheet, i, glyph(byte))
-        if at_end:
+        if place >= len(text):
             draw_cell(sheet, len(line), "end")
     draw_cuts(sheet, len(line), cut_left, cut_right)
-    i = verdict.place - shown
-    middle = MARGIN + (i + 0.5) * CELL
-    with sheet.group("marks"):
-        sheet.add("rect", class_="mark", x=middle - CELL / 2, y=66, width=CELL, height=TALL, rx=2, stroke_width=2.4)
-        sheet.add("polygon", class_="head", points=f"{middle - 5},106 {middle + 5},106 {middle},97")
-        sheet.text(max(MARGIN, middle - 26), 120, f"offset {verdict.place}", class_="bad", font_size=11)
-    what = "the text ends there" if at_end else f"it is {named(text[verdict.place])}"
-    more = f"The byte at offset {verdict.place} is byte {verdict.place - text.rfind(chr(10).encode(), 0, verdict.place)} of line {number}; {what}."
+    mark_cell(sheet, place - shown, place)
+    what = f"it is {named(text[place])}" if place < len(text) else "the text ends before it"
+    within = place - text.rfind(b"\n", 0, place)
+    more = f"Offset {place} is byte {within} of line {number}; {what}."
     return finished(sheet, NARROWEST, 148, 1, title, [words, more])
 
 
 def named(byte):
-    return {0x20: "a space", 0x0a: "a line feed"}.get(byte, f"hexadecimal {byte:02X}" + (f", '{chr(byte)}'" if 0x20 < byte < 0x7f else ""))
+    if 0x20 < byte < 0x7f:
+        return f"'{chr(byte)}'"
+    return {0x20: "a space", 0x0a: "a line feed"}.get(byte, f"hexadecimal {byte:02X}")
+
+
+def mark_cell(sheet, i, place):
+    middle = MARGIN + (i + 0.5) * CELL
+    with sheet.group("marks"):
+        sheet.add("rect", class_="mark", x=middle - CELL / 2, y=66, width=CELL, height=TALL, rx=2, stroke_width=2.4)
+        sheet.add("polygon", class_="head", points=f"{middle - 5},106 {middle + 5},106 {middle},97")
+        sheet.text(max(MARGIN, middle - 26), 120, f"offset {place}", class_="bad", font_size=11)
 
 
 def draw_cell(sheet, i, words):
-    x = MARGIN + i * CELL
+    x, size = MARGIN + i * CELL, 15 if len(words) == 1 else 20 / len(words)
     sheet.add("rect", class_="cell", x=x, y=66, width=CELL, height=TALL)
-    sheet.text(x + CELL / 2, 84, words, class_="byte", font_size=15 if len(words) == 1 else 16 / len(words), text_anchor="middle")
+    sheet.text(x + CELL / 2, 84, words, class_="byte", font_size=size, text_anchor="middle")
 
 
 def draw_cuts(sheet, count, left, right):

@@ -1,4 +1,4 @@
-"""What a picture is drawn from: the pin list's text, the board file's bytes, and the lines that the proved programs wrote."""
+"""What a picture is drawn from: the pin list, the board file's bytes, and the lines that the proved programs wrote."""
 from collections import namedtuple
 
 KINDS = ("trunk", "branch", "contact", "none")
@@ -47,11 +47,9 @@ def facts_of(listing):
     lines = lines_of(listing)
     if lines and lines[0][0] == "REFUSED":
         return None
-    try:
-        (board, _, tracks, blank), (bound, density, chain) = lines[:2]
-        assert (board, bound) == ("BOARD", "BOUND")
-    except (ValueError, AssertionError):
-        raise Unreadable("the listing has no BOARD and BOUND lines") from None
+    if [(line[0], len(line)) for line in lines[:2]] != [("BOARD", 4), ("BOUND", 3)]:
+        raise Unreadable("the listing has no BOARD and BOUND lines")
+    (_, _, tracks, blank), (_, density, chain) = lines[:2]
     return Facts(int(tracks), int(blank), int(density), int(chain))
 
 

@@ -1,5 +1,5 @@
-"""The legend: a small sample of each kind of shape in the picture, with its words, in as many lines as the sheet needs."""
-from svg import words_wide
+"""The legend: a sample of each kind of shape in the picture, with its words, in as many lines as the sheet needs."""
+from svg import dashes, words_wide
 
 WORDS = {
     "trunk": "trunk side",
@@ -49,18 +49,20 @@ def draw_sample(sheet, kind, x, y, u):
     if kind == "ring":
         sheet.add("rect", class_="ring-pin", x=middle - 5 * u, y=y - 5 * u, width=10 * u, height=10 * u)
     if kind in ("mark", "refused", "partner"):
-        sheet.add("rect", class_="partner" if kind == "partner" else "mark", x=middle - 6 * u, y=y - 9 * u, width=12 * u,
-                  height=18 * u, rx=3 * u, stroke_width=2 * u)
+        sheet.add("rect", class_="mark", x=middle - 6 * u, y=y - 9 * u, width=12 * u, height=18 * u, rx=3 * u,
+                  stroke_width=2 * u, stroke_dasharray=dashes(0.7 * u) if kind == "partner" else "none")
     if kind == "piece":
-        sheet.add("rect", class_="piece-mark", x=x, y=y - 6 * u, width=SAMPLE * u, height=12 * u, rx=5 * u, stroke_width=1.6 * u)
+        sheet.add("rect", class_="piece-mark", x=x, y=y - 6 * u, width=SAMPLE * u, height=12 * u, rx=5 * u,
+                  stroke_width=1.6 * u, stroke_dasharray=dashes(u))
     if kind == "above":
         draw_arrow(sheet, middle, y - 9 * u, y + 9 * u, u)
     if kind == "same":
-        sheet.add("line", class_="same", x1=x, y1=y, x2=end, y2=y, stroke_width=1.4 * u)
+        sheet.add("line", class_="same", x1=x, y1=y, x2=end, y2=y, stroke_width=1.4 * u, stroke_dasharray=dashes(u))
 
 
 def draw_arrow(sheet, x, high, low, unit):
     """An arrow straight down, its head ending at the low place."""
     sheet.add("line", class_="above", x1=x, y1=high, x2=x, y2=low - 6 * unit, stroke_width=2 * unit)
-    sheet.add("polygon", class_="head", stroke="none",
-              points=f"{x - 4.5 * unit:.2f},{low - 8 * unit:.2f} {x + 4.5 * unit:.2f},{low - 8 * unit:.2f} {x:.2f},{low:.2f}")
+    corners = ((x - 4.5 * unit, low - 8 * unit), (x + 4.5 * unit, low - 8 * unit), (x, low))
+    points = " ".join(f"{across:.2f},{down:.2f}" for across, down in corners)
+    sheet.add("polygon", class_="head", stroke="none", points=points)

@@ -2,9 +2,9 @@
 
 Usage: python3 picture.py PINS LISTING BOARD VERDICT WORDS
 
-PINS is the pin list's text, LISTING the listing program's output, BOARD the board file. VERDICT is the judge's output, or the
-listing's where a board was wanted of a list that has none. WORDS say what the verdict means. No answer is found here: the board's
-bytes are decoded and drawn. Exit status 0 when a picture was written, 2 otherwise.
+PINS is the pin list's text, LISTING the listing program's output, BOARD the board file. VERDICT is the judge's output,
+or the listing's where a board was wanted of a list that has none. WORDS say what the verdict means. No answer is found
+here: the board's bytes are decoded and drawn. Exit status 0 when a picture was written, 2 otherwise.
 """
 import sys
 from pathlib import Path
@@ -16,7 +16,7 @@ from scenes import draw_board, draw_pins_only
 
 
 def draw(text, listing, board, verdict, words):
-    """The picture that belongs to a verdict. A text over the limit is refused before its rows are known, a board over it after."""
+    """The picture that belongs to a verdict. A text over the limit is refused before its rows are known."""
     if verdict.number == 2 or (verdict.number == 0 and listing.startswith(b"REFUSED 0 ")):
         return draw_text(text, verdict, words)
     rows = rows_of(text)

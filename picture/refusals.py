@@ -2,10 +2,10 @@
 from frame import Frame, labelled
 from legend import draw_arrow
 from scenes import status_of
-from svg import words_wide
+from svg import dashes, words_wide
 
 WIDEST = 512
-PAIRS_SPELT = 6
+PAIRS_SPELT = 12
 
 
 # A tangled list: the ring runs down each of its columns, and from there along a net to the next.
@@ -33,13 +33,15 @@ def onward(ring):
 def draw_same_nets(frame, ring):
     """From the lower pin of each column to the next column, where the same net is the upper one."""
     for (_, column), (net, following) in onward(ring):
-        frame.sheet.add("line", f"net {net} again", class_="same", x1=frame.x(column), y1=frame.y(0), x2=frame.x(following),
-                        y2=frame.y(1), stroke_width=1.4 * frame.unit)
+        frame.sheet.add("line", f"net {net} again", class_="same", x1=frame.x(column), y1=frame.y(0),
+                        x2=frame.x(following), y2=frame.y(1), stroke_width=1.4 * frame.unit,
+                        stroke_dasharray=dashes(frame.unit))
 
 
 def draw_step(frame, column):
     """The two pins of a ring's column and the arrow from the upper to the lower."""
-    draw_arrow(frame.sheet, frame.x(column), frame.y(1), frame.y(0) - frame.pad / 2, min(1.3 * frame.unit, frame.dx / 10))
+    size = min(1.3 * frame.unit, frame.dx / 10)
+    draw_arrow(frame.sheet, frame.x(column), frame.y(1), frame.y(0) - frame.pad / 2, size)
     for row in (1, 0):
         frame.sheet.add("rect", class_="ring-pin", x=frame.x(column) - frame.pad / 2, y=frame.y(row) - frame.pad / 2,
                         width=frame.pad, height=frame.pad)
@@ -59,7 +61,8 @@ def draw_pills(frame, ring):
             if x - wide / 2 < free:
                 continue
             free = x + wide / 2
-            frame.sheet.add("rect", class_="pill", x=x - wide / 2, y=y - tall / 2, width=wide, height=tall, rx=0.4 * size)
+            frame.sheet.add("rect", class_="pill", x=x - wide / 2, y=y - tall / 2, width=wide, height=tall,
+                            rx=0.4 * size)
             write = frame.sheet.text if upright else frame.sheet.turned
             across, down = (x, y + 0.36 * size) if upright else (x + 0.36 * size, y)
             write(across, down, words, text_anchor="middle")
@@ -67,12 +70,12 @@ def draw_pills(frame, ring):
 
 def spelt(ring):
     """The ring in words, in full if it is short."""
-    steps = [f"Column {column}: net {net}'s branch comes down from TOP and net {lower}'s up from BOT, on one side of the board. So "
-             f"that they do not meet, trunk {net} must lie above trunk {lower}." for (net, column), (lower, _) in onward(ring)]
+    steps = [f"column {column}: trunk {net} above trunk {lower}" for (net, column), (lower, _) in onward(ring)]
     if len(steps) > PAIRS_SPELT:
-        steps[PAIRS_SPELT:] = [f"And so on, through {len(ring)} columns in all."]
-    first = ring[0][0]
-    return steps + [f"Trunk {first} would then have to lie above itself. So there is no board with one trunk a net."]
+        steps[PAIRS_SPELT:] = [f"and so on, through {len(ring)} columns in all"]
+    return ["In a column of the ring one net's branch comes down from TOP, the other's up from BOT, on one side of the "
+            "board. So that they do not meet, the upper net's trunk must lie above the lower net's", "; ".join(steps),
+            f"So trunk {ring[0][0]} would have to lie above itself, and there is no board with one trunk a net"]
 
 
 # Rows that were made out but are refused.
@@ -81,7 +84,7 @@ def draw_rows(rows, verdict, words):
     """Rows far too wide are shown a little beyond the widest."""
     shown = tuple(row[:WIDEST + 4] for row in rows)
     frame = Frame(shown, 0, track_step=110)
-    title = f"TOP {len(rows[0])} columns · BOT {len(rows[1])} columns"
+    title = f"columns: TOP {len(rows[0])}, BOT {len(rows[1])}"
     frame.draw_title(title, status_of(verdict), False)
     frame.draw_grid()
     places, more = refused_places(frame, rows, verdict)
@@ -95,7 +98,7 @@ def draw_rows(rows, verdict, words):
 
 def refused_places(frame, rows, verdict):
     """The columns and rows to mark for refusals 3 to 6, and what the caption adds."""
-    place = verdict.place
+    place, pins = verdict.place, rows[0] + rows[1]
     if verdict.number == 3:
         places = [(place, 1 - i) for i, row in enumerate(rows) if len(row) >= place]
         cut = max(map(len, rows)) - frame.columns
@@ -105,6 +108,6 @@ def refused_places(frame, rows, verdict):
         return [(place, row)], f"{side} ends before column {place}, and the other row goes on."
     if verdict.number == 5:
         side, column, row = frame.pin_place(place)
-        return [(column, row)], f"That is the {side} pin of column {column}, with net {labelled((rows[0] + rows[1])[place - 1])}."
-    side, column, row = frame.pin_place((rows[0] + rows[1]).index(str(place)) + 1)
+        return [(column, row)], f"Net {labelled(pins[place - 1])} is at the {side} pin of column {column}."
+    side, column, row = frame.pin_place(pins.index(str(place)) + 1)
     return [(column, row)], f"It is the {side} pin of column {column}; a net joins two pins or more."

@@ -1,6 +1,7 @@
 """Pictures of a board: its copper over the channel's pins, with a fault marked if the judge found one."""
 from frame import Frame
 from inputs import board_of, piece_of
+from svg import dashes
 
 COPPER = ["trunk", "branch", "contact", "crossing", "pin"]
 WORDS = {0: "too long", 2: "garbled", 3: "too wide", 4: "uneven", 5: "high net", 6: "lone pin", 7: "tangled", 8: "torn",
@@ -18,9 +19,10 @@ def title_of(board, facts):
     """Blank, density and chain are the listing's; a board file with other tracks than the router's says so."""
     if facts is None:
         return f"width {board.width} · tracks {board.tracks} · tangled list, so no blank, density or chain"
-    own = facts.tracks == board.tracks
-    blank = f"blank {facts.blank}" if own else f"the router's {facts.tracks} on blank {facts.blank}"
-    return f"width {board.width} · tracks {board.tracks} · {blank} · density {facts.density} · chain {facts.chain}"
+    blank = f" · blank {facts.blank}"
+    if facts.tracks != board.tracks:
+        blank = f" (the router fills {facts.tracks}, blank {facts.blank})"
+    return f"width {board.width} · tracks {board.tracks}{blank} · density {facts.density} · chain {facts.chain}"
 
 
 def described(piece):
@@ -72,7 +74,7 @@ def draw_piece(frame, piece, words):
         frame.sheet.add("line", words, class_=piece.kind, x1=x1, y1=y1, x2=x2, y2=y2)
 
 
-def mark_pins(frame, verdict):
+def mark_pins(frame, verdict, _):
     """Boxes the pin of a short or an open; answers what the legend and the caption add."""
     side, column, row = frame.pin_place(verdict.place)
     pins = frame.rows[0] + frame.rows[1]
@@ -91,7 +93,7 @@ def mark_piece(frame, verdict, pieces):
     x1, y1, x2, y2 = ends_of(frame, piece)
     around = max(1.5 * frame.copper, 5 * u)
     frame.sheet.add("rect", class_="piece-mark", x=x1 - around, y=y2 - around, width=x2 - x1 + 2 * around,
-                    height=y1 - y2 + 2 * around, rx=around, stroke_width=1.6 * u)
+                    height=y1 - y2 + 2 * around, rx=around, stroke_width=1.6 * u, stroke_dasharray=dashes(u))
     return ["piece"], f"Piece {verdict.place} of the file: {described(piece)}."
 
 
@@ -107,8 +109,9 @@ def draw_board(rows, board_bytes, facts, verdict, words):
     frame.draw_pins()
     kinds, sentences = list(COPPER), [words]
     if verdict.word != "GOOD":
+        mark = mark_piece if verdict.number == 13 else mark_pins
         with frame.sheet.group("marks"):
-            marks, more = mark_piece(frame, verdict, board.pieces) if verdict.number == 13 else mark_pins(frame, verdict)
+            marks, more = mark(frame, verdict, board.pieces)
         kinds, sentences = kinds + marks, [words, more]
     return frame.finish(title, kinds, sentences)
 

@@ -24,11 +24,11 @@ text { font-family: 'DejaVu Sans', Verdana, Arial, sans-serif; fill: #1d2733 }
 .band { fill: #a8005c; fill-opacity: 0.13 }
 .ring-pin { fill: #a8005c }
 .mark { fill: none; stroke: #a8005c }
-.piece-mark { fill: #a8005c; fill-opacity: 0.1; stroke: #a8005c; stroke-dasharray: 6 3 }
-.partner { fill: none; stroke: #a8005c; stroke-dasharray: 3 3 }
+.piece-mark { fill: #a8005c; fill-opacity: 0.1; stroke: #a8005c }
+.partner { fill: none; stroke: #a8005c }
 .above { stroke: #a8005c; fill: none }
 .head { fill: #a8005c }
-.same { stroke: #5b676d; fill: none; stroke-dasharray: 5 4 }
+.same { stroke: #5b676d; fill: none }
 .pill { fill: #ffffff; stroke: #a8005c }
 .cell { fill: #eff2f0; stroke: #cdd5d8 }
 .byte { font-family: 'DejaVu Sans Mono', Consolas, monospace }
@@ -50,6 +50,10 @@ def digits_wide(count, size):
     return 0.68 * size * count
 
 
+def dashes(unit):
+    return f"{short(5 * unit)} {short(3.5 * unit)}"
+
+
 class Sheet:
     """Shapes in the order in which they are painted."""
 
@@ -62,7 +66,7 @@ class Sheet:
         return f"<{name}{written}"
 
     def add(self, name, title=None, **attributes):
-        """A shape; `class_` is its class, and an underscore inside a name stands for a hyphen. The title shows when pointed at."""
+        """A shape; `class_` is its class, an underscore in a name is a hyphen. The title shows when pointed at."""
         end = "/>" if title is None else f"><title>{escape(title)}</title></{name}>"
         self.parts.append(self._open(name, attributes) + end)
 
@@ -81,7 +85,8 @@ class Sheet:
 
     def document(self, width, height, title):
         """The whole file, on its own background so that it reads on light and dark pages."""
-        size = f'width="{short(width)}" height="{short(height)}" viewBox="0 0 {short(width)} {short(height)}"'
-        return "\n".join([f'<svg xmlns="http://www.w3.org/2000/svg" {size} role="img">', f"<title>{escape(title)}</title>",
-                          f"<style>{STYLE}</style>", '<rect class="paper" width="100%" height="100%"/>',
-                          *self.parts, "</svg>", ""])
+        w, h = short(width), short(height)
+        root = f'<svg xmlns="http://www.w3.org/2000/svg" width="{w}" height="{h}" viewBox="0 0 {w} {h}" role="img">'
+        paper = '<rect class="paper" width="100%" height="100%"/>'
+        words = f"<title>{escape(title)}</title>"
+        return "\n".join([root, words, f"<style>{STYLE}</style>", paper, *self.parts, "</svg>", ""])
