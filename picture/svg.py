@@ -3,7 +3,7 @@
 Blue, orange and near black stay apart for colour-blind readers; marks are magenta and, besides, dashed or ringed.
 """
 from contextlib import contextmanager
-from xml.sax.saxutils import escape, quoteattr
+from html import escape
 
 STYLE = """
 text { font-family: 'DejaVu Sans', Verdana, Arial, sans-serif; fill: #1d2733 }
@@ -61,17 +61,17 @@ class Sheet:
         self.parts = []
 
     def _open(self, name, attributes):
-        written = "".join(f" {key.rstrip('_').replace('_', '-')}={quoteattr(short(value))}"
+        written = "".join(f' {key.rstrip("_").replace("_", "-")}="{escape(short(value))}"'
                           for key, value in attributes.items())
         return f"<{name}{written}"
 
     def add(self, name, title=None, **attributes):
         """A shape; `class_` is its class, an underscore in a name is a hyphen. The title shows when pointed at."""
-        end = "/>" if title is None else f"><title>{escape(title)}</title></{name}>"
+        end = "/>" if title is None else f"><title>{escape(title, quote=False)}</title></{name}>"
         self.parts.append(self._open(name, attributes) + end)
 
     def text(self, x, y, words, **attributes):
-        self.parts.append(f"{self._open('text', dict(x=x, y=y, **attributes))}>{escape(words)}</text>")
+        self.parts.append(f"{self._open('text', dict(x=x, y=y, **attributes))}>{escape(words, quote=False)}</text>")
 
     def turned(self, x, y, words, **attributes):
         """A text that reads upwards from its place."""
@@ -88,5 +88,5 @@ class Sheet:
         w, h = short(width), short(height)
         root = f'<svg xmlns="http://www.w3.org/2000/svg" width="{w}" height="{h}" viewBox="0 0 {w} {h}" role="img">'
         paper = '<rect class="paper" width="100%" height="100%"/>'
-        words = f"<title>{escape(title)}</title>"
+        words = f"<title>{escape(title, quote=False)}</title>"
         return "\n".join([root, words, f"<style>{STYLE}</style>", paper, *self.parts, "</svg>", ""])
