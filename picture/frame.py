@@ -64,7 +64,8 @@ class Frame:
 
     def draw_title(self, title, status, good):
         u, middle, style = self.unit, self.width / 2, "good" if good else "bad"
-        self.sheet.text(middle, 26 * u, title, class_="title", font_size=16 * u, text_anchor="middle")
+        size = min(16 * u, (self.width - 24 * u) / (0.65 * len(title)))
+        self.sheet.text(middle, 26 * u, title, class_="title", font_size=size, text_anchor="middle")
         self.sheet.text(middle, 46 * u, status, class_=style, font_size=13 * u, text_anchor="middle")
 
     def draw_grid(self):

@@ -2,33 +2,24 @@
 
 Usage: python3 picture/test_picture.py
 
-Every place is mapped back from the sheet to column and row by the board's rectangle alone, and compared with the pieces that
-the independent program of reference/ finds in the same board file.
+Every place is mapped back from the sheet to column and row by the board's rectangle alone, and compared with the pieces
+that the independent program of reference/ finds in the same board file.
 """
 import os
-import random
 import subprocess
 import sys
 import tempfile
-import xml.etree.ElementTree as ET
 from collections import Counter
 from concurrent.futures import ThreadPoolExecutor
 from pathlib import Path
+from xml.etree.ElementTree import ParseError
+
+sys.dont_write_bytecode = True
+from read_back import SVG, Sheet  # noqa: E402  (no compiled copies are to be left in the tree)
+from test_cases import A, D, GOOD, REFUSED_BOARDS, REFUSED_ROWS, REFUSED_TEXTS, RINGS, channel, runs  # noqa: E402
 
 ROOT = Path(__file__).resolve().parent.parent
-sys.dont_write_bytecode = True
-sys.path.insert(0, str(ROOT / "reference"))
-import channel  # noqa: E402  (the independent program; its folder is on the path only now)
-
-SVG = "{http://www.w3.org/2000/svg}"
 LARGEST = 2_000_000
-A = b"TOP 0 1 2 3\nBOT 1 2 0 3\n"
-B = b"TOP 0 1 6 1 2 3 5\nBOT 6 3 5 4 0 2 4\n"
-D = b"TOP 1 2 3 1\nBOT 2 3 2 0\n"
-# a good board of the tangled D, whose net 2 has two trunks joined in column 4
-SPLIT = [(0, 4, 1, 4), (1, 1, 4, 5), (2, 1, 4, 4), (1, 4, 4, 5), (2, 4, 4, 4), (0, 3, 2, 4), (0, 1, 1, 4), (1, 4, 1, 3),
-         (2, 4, 3, 3), (2, 4, 1, 1), (1, 1, 0, 1), (2, 1, 1, 1), (1, 2, 3, 5), (2, 2, 3, 3), (1, 3, 0, 1), (2, 3, 1, 1),
-         (0, 2, 2, 3), (1, 2, 0, 2), (2, 2, 2, 2), (1, 3, 2, 5), (2, 3, 2, 2)]
 passed, failures = 0, []
 
 
@@ -38,42 +29,6 @@ def check(name, held):
     if not held:
         failures.append(name)
 
-
-# --- channels ----------------------------------------------------------------------------------------------------------
-
-def text_of(top, bot):
-    return f"TOP {' '.join(map(str, top))}\nBOT {' '.join(map(str, bot))}\n".encode()
-
-
-def random_channel(width, nets, seed):
-    """No ring can arise: in every column the TOP net comes before the BOT net in one hidden order."""
-    draw = random.Random(seed)
-    order = draw.sample(range(1, nets + 1), nets)
-    columns = [sorted(draw.choices(range(nets), k=2)) for _ in range(width)]
-    top, bot = ([order[pair[i]] if draw.random() < 0.8 else 0 for pair in columns] for i in (0, 1))
-    pins = Counter(top + bot)
-    return text_of(*([n if pins[n] > 1 else 0 for n in row] for row in (top, bot)))
-
-
-def staircase(nets):
-    """512 columns with each net above the next: as many tracks as nets."""
-    top = [c if c <= nets else 0 for c in range(1, 512)] + [1]
-    return text_of(top, [c + 1 if c < nets else 0 for c in range(1, 513)])
-
-
-def turned(width, by):
-    """One ring through all columns."""
-    nets = list(range(1, width + 1))
-    return text_of(nets, nets[by:] + nets[:by])
-
-
-GOOD = {"A": A, "B": B, "E": b"TOP 1 0 1 2 0 2\nBOT 0 3 0 0 3 0\n", "F": b"TOP 0\nBOT 0\n", "G": b"TOP 5\nBOT 5\n",
-        "M, net 511": b"TOP 511\nBOT 511\n", "M, 512 columns": text_of([0] * 512, [0] * 512),
-        "64 columns": random_channel(64, 30, 1), "512 columns": random_channel(512, 511, 2), "401 tracks": staircase(401)}
-RINGS = {"C": b"TOP 1 2\nBOT 2 1\n", "D": D, "40 columns": turned(40, 7), "511 columns": turned(511, 1)}
-
-
-# --- running -----------------------------------------------------------------------------------------------------------
 
 def picture(folder, pins, board=None, stdin=None):
     """Exit status, output and words on standard error; the programs' Python is the one that runs this."""
@@ -93,41 +48,13 @@ def run(*arguments, stdin=b""):
     return done.returncode, done.stdout, done.stderr
 
 
-class Sheet:
-    """A picture read back."""
+def sheet_of(name, answer, tracks=0):
+    check(f"{name}: size", len(answer[1]) < LARGEST)
+    try:
+        return Sheet(answer[1], tracks)
+    except ParseError as error:
+        sys.exit(f"pictures: {name} is no XML: {error}; standard error says {answer[2].decode(errors='replace')!r}")
 
-    def __init__(self, name, output, tracks=0):
-        check(f"{name}: size", 0 < len(output) < LARGEST)
-        self.root, self.tracks = ET.fromstring(output), tracks
-        self.board = next((e for e in self.root.iter(SVG + "rect") if e.get("class") == "board"), None)
-        self.columns = sum(e.get("class") == "column" for e in self.root.iter(SVG + "line"))
-
-    def inside(self, group, *classes):
-        """The shapes of these classes in the groups of a name."""
-        return [e for g in self.root.iter(SVG + "g") if g.get("class") == group for e in g.iter()
-                if e.get("class") in classes]
-
-    def words(self):
-        return " ".join(e.text or "" for e in self.root.iter(SVG + "text"))
-
-    def point(self, x, y):
-        """Column and row of a place on the sheet."""
-        left, top, width, height = (float(self.board.get(k)) for k in ("x", "y", "width", "height"))
-        return (x - left) / width * self.columns + 0.5, (top + height - y) / height * (self.tracks + 1)
-
-    def grid_point(self, x, y):
-        """The same, where it has to be a point of the grid."""
-        exact = self.point(float(x), float(y))
-        whole = tuple(map(round, exact))
-        return whole if max(abs(a - b) for a, b in zip(exact, whole)) < 0.03 else ("off the grid", exact)
-
-    def middle(self, e):
-        """The point in the middle of a rectangle."""
-        x, y, w, h = (float(e.get(k)) for k in ("x", "y", "width", "height"))
-        return self.grid_point(x + w / 2, y + h / 2)
-
-
-# --- what is checked of a picture --------------------------------------------------------------------------------------
 
 def check_copper(name, sheet, pieces):
     """As many shapes of each kind as pieces, each from point to point as its piece."""
@@ -168,7 +95,7 @@ def check_frame(name, sheet, top, bot):
 def check_board(name, answer, pins, file, status=0):
     width, tracks, pieces = channel.open_board(file)
     check(f"{name}: status", answer[0] == status)
-    sheet = Sheet(name, answer[1], tracks)
+    sheet = sheet_of(name, answer, tracks)
     check(f"{name}: width", sheet.columns == width)
     check_copper(name, sheet, pieces)
     check_frame(name, sheet, *channel.parse(pins))
@@ -199,7 +126,7 @@ def check_ring(name, answer, pins):
     ring = [tuple(map(int, line.split()[1:])) for line in channel.listing(pins).decode().splitlines()[1:]]
     top, bot = channel.parse(pins)
     check(f"{name}: status", answer[0] == 1 and b"tangled" in answer[2])
-    sheet = Sheet(name, answer[1])
+    sheet = sheet_of(name, answer)
     check_frame(name, sheet, top, bot)
     check_copper(name, sheet, [])
     due = {(c, row) for _, c in ring for row in (1, 0)}
@@ -220,7 +147,7 @@ def check_ring(name, answer, pins):
 def check_rows(name, answer, columns, marks):
     """Rows with the refused places marked."""
     check(f"{name}: status", answer[0] == 1 and answer[2].count(b"\n") == 1)
-    sheet = Sheet(name, answer[1])
+    sheet = sheet_of(name, answer)
     check(f"{name}: columns", sheet.columns == columns)
     check(f"{name}: marks", boxed(sheet) == marks)
 
@@ -228,22 +155,10 @@ def check_rows(name, answer, columns, marks):
 def check_text(name, answer, cell, shown):
     """A line of the text with one cell marked."""
     check(f"{name}: status", answer[0] == 1)
-    sheet = Sheet(name, answer[1])
+    sheet = sheet_of(name, answer)
     cells, marks = sheet.inside("line", "cell"), sheet.inside("marks", "mark")
     check(f"{name}: mark", len(marks) == 1 and cells[cell].get("x") == marks[0].get("x"))
     check(f"{name}: bytes", [e.text for e in sheet.inside("line", "byte")] == shown)
-
-
-# --- the runs ----------------------------------------------------------------------------------------------------------
-
-def faulty():
-    """Board files of A with the paper's faults: file, and then what has to be marked."""
-    width, tracks, pieces = channel.open_board(channel.board(A))
-
-    def file(changed):
-        return channel.encode(width, tracks, changed)
-    return {"H": file(pieces[:7] + pieces[8:]), "I": file(pieces[:3] + [(1, 2, 1, 3)] + pieces[4:]),
-            "J": file(pieces + [(0, 2, 3, 4)])}
 
 
 def check_faults(answers, files):
@@ -253,31 +168,17 @@ def check_faults(answers, files):
     piece = sheets["J"].inside("marks", "piece-mark")
     x, y, w, h = (float(piece[0].get(k)) for k in ("x", "y", "width", "height"))
     first, last = sheets["J"].point(x, y + h), sheets["J"].point(x + w, y)
-    check("J: mark", len(piece) == 1 and 2.5 < first[0] < 3 and 4 < last[0] < 4.5 and 1.5 < first[1] < 2 < last[1] < 2.5)
+    check("J: mark", len(piece) == 1 and 2.5 < first[0] < 3 and 4 < last[0] < 4.5)
+    check("J: mark's track", 1.5 < first[1] < 2 < last[1] < 2.5)
     check("J: words", "trunk, track 2, columns 3 to 4" in sheets["J"].words())
     for name, fault in (("H", "12 6: open"), ("I", "11 3: short"), ("J", "13 12: floating")):
         check(f"{name}: fault", f"REFUSED {fault}" in sheets[name].words() and b"\n" == answers[name][2][-1:])
 
 
-REFUSED_ROWS = {  # text, columns drawn, marked points
-    "L": (b"TOP 1 0\nBOT 0 0\n", 2, {(1, 1)}), "M, net 512": (b"TOP 512\nBOT 512\n", 1, {(1, 1)}),
-    "M, 513 columns": (text_of([0] * 513, [0] * 513), 513, {(513, 1), (513, 0)}),
-    "far too wide": (text_of([1] * 20000, [1]), 516, {(513, 1)}), "uneven": (b"TOP 1 2 2\nBOT 1\n", 3, {(2, 0)}),
-    "5,000 digits": (text_of([1, 1, 0], [0, 0, "9" * 5000]), 3, {(3, 0)})}
-REFUSED_TEXTS = {  # text, marked cell, cells
-    "K": (b"TOP 01", 5, list("TOP·01")), "escaped": (b"TOP 1\nBOT <&\"\0\xff\n", 4, list("BOT·<&\"") + ["00", "FF", "LF"]),
-    "empty": (b"", 0, ["end"]), "cut off": (b"TOP 1\nBOT 1", 5, list("BOT·1") + ["end"]),
-    "too long": (b"TOP" + b" 1" * 40000, 24, list("1·" * 18 + "1"))}
-REFUSED_BOARDS = {  # file, words
-    "torn": (b"abc", "REFUSED 8 4: torn"), "bad header": (channel.encode(513, 1, []), "REFUSED 9 0: bad field"),
-    "bad piece": (channel.encode(4, 2, [(0, 1, 1, 2), (1, 2, 0, 9)]), "branch, column 2, rows 0 to 9"),
-    "wrong board": (channel.encode(5, 2, []), "REFUSED 10 5: wrong board"), "long board": (bytes(65537), "REFUSED 0 65536")}
-
-
 def check_boards_refused(answers):
     for name, (_, words) in REFUSED_BOARDS.items():
         check(f"{name}: status", answers[name][0] == 1)
-        sheet = Sheet(name, answers[name][1])
+        sheet = sheet_of(name, answers[name])
         check_frame(name, sheet, *channel.parse(A))
         check_copper(name, sheet, [])
         check(f"{name}: words", words in sheet.words())
@@ -286,24 +187,11 @@ def check_boards_refused(answers):
 def check_wrong_use(folder):
     pins = Path(folder, "A")
     pins.write_bytes(A)
-    wrong = {"no file": (), "three files": (pins, pins, pins), "no such file": (folder + "/none",), "a folder": (folder,),
-             "no such board": (pins, folder + "/none"), "twice standard input": ("-", "-")}
+    wrong = {"no file": (), "three files": (pins, pins, pins), "no such file": (folder + "/none",),
+             "a folder": (folder,), "no such board": (pins, folder + "/none"), "twice standard input": ("-", "-")}
     for name, arguments in wrong.items():
         status, output, words = run(*arguments)
         check(f"{name}: refused", status == 2 and output == b"" and words.count(b"\n") == 1)
-
-
-def runs():
-    """Name of each run: pin list, board file if any, standard input if any."""
-    files = faulty()
-    table = {name: (pins,) for name, pins in (*GOOD.items(), *((f"ring {n}", p) for n, p in RINGS.items()))}
-    table.update({name: (A, file) for name, file in files.items()})
-    table.update({name: (case[0],) for name, case in (*REFUSED_ROWS.items(), *REFUSED_TEXTS.items())})
-    table.update({name: (A, case[0]) for name, case in REFUSED_BOARDS.items()})
-    table["A again"] = (A, channel.board(A))
-    table["split"] = (D, channel.encode(4, 4, SPLIT))
-    table["standard input"] = (b"", None, B)
-    return files, table
 
 
 def main():
@@ -321,7 +209,10 @@ def main():
     for name, (_, cell, shown) in REFUSED_TEXTS.items():
         check_text(name, answers[name], cell, shown)
     check_boards_refused(answers)
-    check_board("split", answers["split"], D, table["split"][1])
+    split = check_board("split", answers["split"], D, table["split"][1])
+    check("split: title", "tracks 4 · tangled list" in split.words())
+    taller = check_board("taller", answers["taller"], A, table["taller"][1])
+    check("taller: title", "tracks 5 (the router fills 2, blank 8)" in taller.words())
     check("a board file of the router's is drawn the same", answers["A again"] == answers["A"])
     check("standard input", answers["standard input"] == answers["B"])
     for example, name in (("B", "example_b"), ("ring D", "example_d")):

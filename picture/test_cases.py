@@ -1,0 +1,97 @@
+"""The pin lists and board files that pictures are tested on, and what has to be marked in those of the refused ones."""
+import random
+import sys
+from collections import Counter
+from pathlib import Path
+
+sys.dont_write_bytecode = True
+sys.path.insert(0, str(Path(__file__).resolve().parent.parent / "reference"))
+import channel  # noqa: E402  (the independent program; its folder is on the path only now)
+
+A = b"TOP 0 1 2 3\nBOT 1 2 0 3\n"
+B = b"TOP 0 1 6 1 2 3 5\nBOT 6 3 5 4 0 2 4\n"
+D = b"TOP 1 2 3 1\nBOT 2 3 2 0\n"
+# a good board of the tangled D, whose net 2 has two trunks joined in column 4
+SPLIT = [(0, 4, 1, 4), (1, 1, 4, 5), (2, 1, 4, 4), (1, 4, 4, 5), (2, 4, 4, 4), (0, 3, 2, 4), (0, 1, 1, 4), (1, 4, 1, 3),
+         (2, 4, 3, 3), (2, 4, 1, 1), (1, 1, 0, 1), (2, 1, 1, 1), (1, 2, 3, 5), (2, 2, 3, 3), (1, 3, 0, 1), (2, 3, 1, 1),
+         (0, 2, 2, 3), (1, 2, 0, 2), (2, 2, 2, 2), (1, 3, 2, 5), (2, 3, 2, 2)]
+
+
+def text_of(top, bot):
+    return f"TOP {' '.join(map(str, top))}\nBOT {' '.join(map(str, bot))}\n".encode()
+
+
+def random_channel(width, nets, seed):
+    """No ring can arise: in every column the TOP net comes before the BOT net in one hidden order."""
+    draw = random.Random(seed)
+    order = draw.sample(range(1, nets + 1), nets)
+    columns = [sorted(draw.choices(range(nets), k=2)) for _ in range(width)]
+    top, bot = ([order[pair[i]] if draw.random() < 0.8 else 0 for pair in columns] for i in (0, 1))
+    pins = Counter(top + bot)
+    return text_of(*([n if pins[n] > 1 else 0 for n in row] for row in (top, bot)))
+
+
+def staircase(nets):
+    """512 columns with each net above the next: as many tracks as nets."""
+    top = [c if c <= nets else 0 for c in range(1, 512)] + [1]
+    return text_of(top, [c + 1 if c < nets else 0 for c in range(1, 513)])
+
+
+def turned(width, by):
+    """One ring through all columns."""
+    nets = list(range(1, width + 1))
+    return text_of(nets, nets[by:] + nets[:by])
+
+
+GOOD = {"A": A, "B": B, "E": b"TOP 1 0 1 2 0 2\nBOT 0 3 0 0 3 0\n", "F": b"TOP 0\nBOT 0\n", "G": b"TOP 5\nBOT 5\n",
+        "M, net 511": b"TOP 511\nBOT 511\n", "M, 512 columns": text_of([0] * 512, [0] * 512),
+        "64 columns": random_channel(64, 30, 1), "512 columns": random_channel(512, 511, 2),
+        "401 tracks": staircase(401)}
+RINGS = {"C": b"TOP 1 2\nBOT 2 1\n", "D": D, "40 columns": turned(40, 7), "511 columns": turned(511, 1)}
+REFUSED_ROWS = {  # text, columns drawn, marked points
+    "L": (b"TOP 1 0\nBOT 0 0\n", 2, {(1, 1)}), "M, net 512": (b"TOP 512\nBOT 512\n", 1, {(1, 1)}),
+    "M, 513 columns": (text_of([0] * 513, [0] * 513), 513, {(513, 1), (513, 0)}),
+    "far too wide": (text_of([1] * 20000, [1]), 516, {(513, 1)}), "uneven": (b"TOP 1 2 2\nBOT 1\n", 3, {(2, 0)}),
+    "5,000 digits": (text_of([1, 1, 0], [0, 0, "9" * 5000]), 3, {(3, 0)})}
+REFUSED_TEXTS = {  # text, marked cell, cells
+    "K": (b"TOP 01", 5, list("TOP·01")),
+    "escaped": (b"TOP 1\nBOT <&\"\0\xff\n", 4, list("BOT·<&\"") + ["00", "FF", "LF"]),
+    "empty": (b"", 0, ["end"]), "cut off": (b"TOP 1\nBOT 1", 5, list("BOT·1") + ["end"]),
+    "too long": (b"TOP" + b" 1" * 40000, 24, list("1·" * 18 + "1"))}
+REFUSED_BOARDS = {  # file, words
+    "torn": (b"abc", "REFUSED 8 4: torn"), "bad header": (channel.encode(513, 1, []), "REFUSED 9 0: bad field"),
+    "bad piece": (channel.encode(4, 2, [(0, 1, 1, 2), (1, 2, 0, 9)]), "branch, column 2, rows 0 to 9"),
+    "wrong board": (channel.encode(5, 2, []), "REFUSED 10 5: wrong board"),
+    "long board": (bytes(65537), "REFUSED 0 65536")}
+
+
+def faulty():
+    """Board files of A with the paper's three faults."""
+    width, tracks, pieces = channel.open_board(channel.board(A))
+
+    def file(changed):
+        return channel.encode(width, tracks, changed)
+    return {"H": file(pieces[:7] + pieces[8:]), "I": file(pieces[:3] + [(1, 2, 1, 3)] + pieces[4:]),
+            "J": file(pieces + [(0, 2, 3, 4)])}
+
+
+def taller():
+    """A's board with three tracks more than the router fills."""
+    width, tracks, pieces = channel.open_board(channel.board(A))
+    above = tracks + 1
+    longer = [(kind, line, a, b + 3 if kind == 1 and b == above else b) for kind, line, a, b in pieces]
+    return channel.encode(width, tracks + 3, longer)
+
+
+def runs():
+    """The faulty files; and for the name of each run its pin list, board file if any, standard input if any."""
+    files = faulty()
+    table = {name: (pins,) for name, pins in (*GOOD.items(), *((f"ring {n}", p) for n, p in RINGS.items()))}
+    table.update({name: (A, file) for name, file in files.items()})
+    table.update({name: (case[0],) for name, case in (*REFUSED_ROWS.items(), *REFUSED_TEXTS.items())})
+    table.update({name: (A, case[0]) for name, case in REFUSED_BOARDS.items()})
+    table["A again"] = (A, channel.board(A))
+    table["taller"] = (A, taller())
+    table["split"] = (D, channel.encode(4, 4, SPLIT))
+    table["standard input"] = (b"", None, B)
+    return files, table
