@@ -3,7 +3,7 @@
 Usage: python3 picture/test_picture.py
 
 Every place is mapped back from the sheet to column and row by the board's rectangle alone, and compared with the pieces
-that the independent program of reference/ finds in the same board file.
+that the independent program of reference/ decodes from the same board file.
 """
 import os
 import subprocess
@@ -39,6 +39,11 @@ def picture(folder, pins, board=None, stdin=None):
         (place / "board").write_bytes(board)
         arguments.append(place / "board")
     return run(*arguments, stdin=stdin)
+
+
+def answered(program, pins):
+    """What a proved program writes of a pin list."""
+    return subprocess.run([ROOT / "target" / "bin" / program], input=pins, stdout=subprocess.PIPE, check=True).stdout
 
 
 def run(*arguments, stdin=b""):
@@ -104,8 +109,8 @@ def check_board(name, answer, pins, file, status=0):
 
 
 def check_routed(name, answer, pins):
-    sheet = check_board(name, answer, pins, channel.board(pins))
-    board, bound = (line.split() for line in channel.listing(pins).decode().splitlines()[:2])
+    sheet = check_board(name, answer, pins, answered("board_writer", pins))
+    board, bound = (line.split() for line in answered("listing", pins).decode().splitlines()[:2])
     title = "width {} · tracks {} · blank {} · density {} · chain {}".format(*board[1:], *bound[1:])
     check(f"{name}: title", title in sheet.words())
     check(f"{name}: no marks", not sheet.inside("marks", "mark", "partner", "piece-mark"))
@@ -123,7 +128,7 @@ def boxed(sheet, class_="mark"):
 
 
 def check_ring(name, answer, pins):
-    ring = [tuple(map(int, line.split()[1:])) for line in channel.listing(pins).decode().splitlines()[1:]]
+    ring = [tuple(map(int, line.split()[1:])) for line in answered("listing", pins).decode().splitlines()[1:]]
     top, bot = channel.parse(pins)
     check(f"{name}: status", answer[0] == 1 and b"tangled" in answer[2])
     sheet = sheet_of(name, answer)
