@@ -45,13 +45,13 @@ def ends_of(frame, piece):
 
 def draw_gaps(frame, branches):
     """The board's own colour around every branch, so that trunks below seem cut; ends inside the board get it too."""
-    margin = max(0.7, min(2.5, 0.36 * frame.copper))
+    around = frame.copper / 2 + max(0.7, min(2.5, 0.36 * frame.copper))
     gaps = []
     for x, y1, _, y2 in (ends_of(frame, branch) for branch in branches):
-        low, high = min(y1 + margin, frame.y(0)), max(y2 - margin, frame.y(frame.tracks + 1))
+        low, high = min(y1 + around, frame.y(0)), max(y2 - around, frame.y(frame.tracks + 1))
         gaps.append(f"M{x:.2f} {low:.2f}V{high:.2f}")
     if gaps:
-        frame.sheet.add("path", class_="gap", stroke_width=frame.copper + 2 * margin, d="".join(gaps))
+        frame.sheet.add("path", class_="gap", stroke_width=2 * around, d="".join(gaps))
 
 
 def draw_copper(frame, pieces):
