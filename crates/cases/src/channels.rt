@@ -72,7 +72,7 @@ fn put_fill(top: &[u32], bot: &[u32]) {
     let mut ring = [7777u32; 1022];
     let mut board = [0u8; 10240];
     output::put_word(b"FILL");
-    let routing = router::route(top, bot, &mut ring, &mut board);
+    let routing = router::route_rows(top, bot, &mut ring, &mut board);
     let answer = routing.answer;
     match answer {
         RouteAnswer::Routed { tracks, pieces: _ } => {

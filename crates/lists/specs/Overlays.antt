@@ -4,7 +4,7 @@ use native.Mathlib.Omega.{arith}
 use native.Mathlib.Numerals.{add-one}
 use mathlib.Core.Path.{_≡_, refl, sym, _∙_, ap}
 use mathlib.Core.List.{List, [], _∷_, _++_}
-use lib.ListN.{length, getD, take, drop, set}
+use lib.ListN.{length, getD, take, drop, set, length-take}
 use lib.Seq.{take-all, take-nil, take-append-seam}
 use Rattle.lists.specs.Lists.{overlay}
 
@@ -19,14 +19,14 @@ module _ {A : Type 0} where
   stored-next buffer xs x m e h = rw (h, ← e) (sym (overlay-snoc buffer xs x))
 
   -- a row copied place by place: one more place, and all of them
-  overlay-next : (row buffer : List A) (i : ℕ) (d : A) → i < length row → length row ≤ length buffer → set (overlay (take i row) buffer) i (getD row i d) ≡ overlay (take (suc i) row) buffer
+  pub overlay-next : (row buffer : List A) (i : ℕ) (d : A) → i < length row → i < length buffer → set (overlay (take i row) buffer) i (getD row i d) ≡ overlay (take (suc i) row) buffer
   overlay-next [] buffer i d h k = absurd (omega arith)
   overlay-next (x ∷ xs) [] i d h k = absurd (omega arith)
   overlay-next (x ∷ xs) (b ∷ bs) zero d h k = refl
   overlay-next (x ∷ xs) (b ∷ bs) (suc i) d h k = ap {B = List A} (λ r. x ∷ r) (overlay-next xs bs i d (omega arith) (omega arith))
 
   pub copied-next : (row buffer : List A) {filled : List A} (i : ℕ) (d : A) → i < length row → length row ≤ length buffer → filled ≡ overlay (take i row) buffer → set filled i (getD row i d) ≡ overlay (take (i + 1) row) buffer
-  copied-next row buffer i d h k e = rw (e, add-one) (overlay-next row buffer i d h k)
+  copied-next row buffer i d h k e = rw (e, add-one) (overlay-next row buffer i d h (omega arith))
 
   pub copied-whole : (row buffer : List A) {filled : List A} (i : ℕ) → length row ≤ i → filled ≡ overlay (take i row) buffer → filled ≡ overlay row buffer
   copied-whole row buffer i h e = e ∙ ap (λ (l : List A). overlay l buffer) (take-all i row h)
@@ -35,6 +35,9 @@ module _ {A : Type 0} where
   length-overlay [] buffer h = refl
   length-overlay (x ∷ xs) [] h = absurd (omega arith)
   length-overlay (x ∷ xs) (b ∷ bs) h = ap suc (length-overlay xs bs (omega arith))
+
+  pub length-overlay-take : (row buffer : List A) (i : ℕ) → i ≤ length buffer → length (overlay (take i row) buffer) ≡ length buffer
+  length-overlay-take row buffer i h = length-overlay (take i row) buffer (simp length-take (omega arith))
 
   -- the front that was filled
   pub overlay-front : (front buffer : List A) → take (length front) (overlay front buffer) ≡ front

@@ -45,7 +45,7 @@ use Rattle.router.specs.declared.Routing.{Routing}
 use Rattle.router.specs.declared.RouteAnswer.the-variants as route
 use Rattle.router.specs.Route.{ringShown, tangled, layoutDrawn, recordsMade, routeTrays, routeRefusal, boardAfter}
 use Rattle.router.specs.ContractLaws.{pairs-length, only-tangled, stuck-answer, filled-answer, stuck-ring, filled-board}
-use Rattle.router.specs.Code.{recordsUnless, RouteDone}
+use Rattle.router.specs.Code.{recordsUnless, RowsDone}
 use Rattle.router.specs.CodeLaws.{room}
 use Rattle.report.specs.Lines.{refusedLine, ringLines, refusalLines}
 use Rattle.report.specs.Code.{ringText, listingText}
@@ -213,7 +213,7 @@ module _ (output : Channel → List ℕ) (ch : Channel) where
   unfolding ofFilled answered tangled
   of-filled t ps e = rw (e, tangled)
 
-module _ (ch : Channel) (esc : Escapes ch) {ring board ring′ board′ : List ℕ} {r : Routing} (hr : ringTray ≤ length ring) (hb : boardTray ≤ length board) (done : RouteDone ch ring board r ring′ board′) where
+module _ (ch : Channel) (esc : Escapes ch) {ring board ring′ board′ : List ℕ} {r : Routing} (hr : ringTray ≤ length ring) (hb : boardTray ≤ length board) (done : RowsDone ch ring board r ring′ board′) where
   enough : shortTray (routeTrays (length ring) (length board)) ≡ none
   enough = room (length ring) (length board) hr hb
 

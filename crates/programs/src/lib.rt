@@ -88,7 +88,7 @@ fn list_channel(top: &[u32], bot: &[u32], out: &mut [u8]) -> usize
 {
     let mut ring = [0u32; 1022];
     let mut board = [0u8; 10240];
-    let routing = router::route(top, bot, &mut ring, &mut board);
+    let routing = router::route_rows(top, bot, &mut ring, &mut board);
     let answer = routing.answer;
     match answer {
         RouteAnswer::Refused(refusal) => put_unrouted(out, refusal, &ring),
@@ -128,7 +128,7 @@ fn board_channel(top: &[u32], bot: &[u32], out: &mut [u8]) -> usize
     ensures { λ r. ⌜ r ≤ 65536 ⌝ }
 {
     let mut ring = [0u32; 1022];
-    let routing = router::route(top, bot, &mut ring, out);
+    let routing = router::route_rows(top, bot, &mut ring, out);
     let answer = routing.answer;
     match answer {
         RouteAnswer::Refused(refusal) => put_unrouted(out, refusal, &ring),

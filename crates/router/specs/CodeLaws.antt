@@ -1,4 +1,4 @@
--- The equations of `route` in each of its cases, and the promise from the equations.
+-- The equations of the routing by value, in each of its cases.
 use Prim.Native.Nat.{ℕ, _≤_, _<_}
 use native.Mathlib.Omega.{arith}
 use mathlib.Core.Path.{_≡_, sym, _∙_, ap, subst⁻¹}
@@ -29,7 +29,7 @@ use Rattle.router.specs.declared.RouteAnswer.the-variants as route
 use Rattle.router.specs.Route.{tangled, recordsMade, routeTrays, routeRefusal, routeAnswer, boardAfter, ringAfter, filledUnder7}
 use Rattle.router.specs.Contract.{RoutePromise}
 use Rattle.router.specs.ContractLaws.{only-tangled, stuck-answer, filled-answer, stuck-ring, filled-board, route-promise}
-use Rattle.router.specs.Code.{recordsUnless, RouteDone}
+use Rattle.router.specs.Code.{recordsUnless}
 
 -- both buffers are long enough
 pub room : (ring board : ℕ) → ringTray ≤ ring → boardTray ≤ board → shortTray (routeTrays ring board) ≡ none
@@ -47,33 +47,22 @@ unfolding shortTray keep refuseAtFirst
 short-second ring board hr h =
     rw (fails→false (ltb (length ring) ringTray) (λ t. let k = ltb→lt (length ring) ringTray t in omega arith), T→true (ltb (length board) boardTray) (lt→ltb (length board) boardTray h))
 
--- the equations alone, for a refusal r that the chain gives or for none
-pub record Held (ch : Channel) (ring board : List ℕ) (r : Routing) (ring′ board′ : List ℕ) : Type 0 where
-  pub answer : r .answer ≡ routeAnswer (routeTrays (length ring) (length board)) ch
-  pub counted : r .count ≡ length (recordsUnless (routeRefusal (routeTrays (length ring) (length board)) ch) (recordsMade ch (fill ch)))
-  pub table : take (r .count) (r .records) ≡ recordsUnless (routeRefusal (routeTrays (length ring) (length board)) ch) (recordsMade ch (fill ch))
-  pub ringHeld : ring′ ≡ ringAfter (routeTrays (length ring) (length board)) ch ring
-  pub boardHeld : board′ ≡ boardAfter (routeTrays (length ring) (length board)) ch board
+-- the equations alone, of the routing by value, where the buffers of `trays` are lent
+pub record HeldBy (trays : List Tray) (ch : Channel) (ring board : List ℕ) (r : Routing) (ring′ board′ : List ℕ) : Type 0 where
+  pub answer : r .answer ≡ routeAnswer trays ch
+  pub counted : r .count ≡ length (recordsUnless (routeRefusal trays ch) (recordsMade ch (fill ch)))
+  pub table : take (r .count) (r .records) ≡ recordsUnless (routeRefusal trays ch) (recordsMade ch (fill ch))
+  pub ringHeld : ring′ ≡ ringAfter trays ch ring
+  pub boardHeld : board′ ≡ boardAfter trays ch board
 
--- what is held by the equations keeps the promise
-pub held→done : {ch : Channel} {ring board : List ℕ} {r : Routing} {ring′ board′ : List ℕ} → Held ch ring board r ring′ board′ → RouteDone ch ring board r ring′ board′
-held→done {ch} {ring} {board} {r} {ring′} {board′} h = record { answer = h .answer; counted = h .counted; table = h .table; ringHeld = h .ringHeld; boardHeld = h .boardHeld; promise = promise }
-  where
-    trays : List Tray
-    trays = routeTrays (length ring) (length board)
-
-    promise : ringTray ≤ length ring → boardTray ≤ length board → Escapes ch → RoutePromise ch (r .answer) ring′ board′
-    promise hr hb esc =
-        subst⁻¹ (λ (a : RouteAnswer). RoutePromise ch a ring′ board′) (h .answer)
-        (subst⁻¹ (λ (x : List ℕ). RoutePromise ch (routeAnswer (routeTrays (length ring) (length board)) ch) x board′) (h .ringHeld)
-        (subst⁻¹ (λ (x : List ℕ). RoutePromise ch (routeAnswer (routeTrays (length ring) (length board)) ch) (ringAfter (routeTrays (length ring) (length board)) ch ring) x) (h .boardHeld)
-        (route-promise (routeTrays (length ring) (length board)) ch (room (length ring) (length board) hr hb) esc ring board)))
+abbrev pub Held : Channel → List ℕ → List ℕ → Routing → List ℕ → List ℕ → Type 0
+Held ch ring board = HeldBy (routeTrays (length ring) (length board)) ch ring board
 
 -- a refusal other than 7: nothing is written, no record is answered
-pub refused-held : (ch : Channel) (ring board : List ℕ) (r : Routing) (q : Refusal) → routeRefusal (routeTrays (length ring) (length board)) ch ≡ some q → (numberOf q ≡ 7 → ⊥) → r .answer ≡ route.Refused q → r .count ≡ 0 → Held ch ring board r ring board
+pub refused-held : (trays : List Tray) (ch : Channel) (ring board : List ℕ) (r : Routing) (q : Refusal) → routeRefusal trays ch ≡ some q → (numberOf q ≡ 7 → ⊥) → r .answer ≡ route.Refused q → r .count ≡ 0 → HeldBy trays ch ring board r ring board
 unfolding routeAnswer answered recordsUnless ringAfter filledUnder7 boardAfter filledUnless
-refused-held ch ring board r q e other a n =
-    let none-made : recordsUnless (routeRefusal (routeTrays (length ring) (length board)) ch) (recordsMade ch (fill ch)) ≡ [] = rw (e, recordsUnless) in
+refused-held trays ch ring board r q e other a n =
+    let none-made : recordsUnless (routeRefusal trays ch) (recordsMade ch (fill ch)) ≡ [] = rw (e, recordsUnless) in
     record { answer = a ∙ sym (rw (e, answered)); counted = n ∙ sym (ap length none-made); table = ap (λ (k : ℕ). take k (r .records)) n ∙ sym none-made; ringHeld = sym (rw (e, filledUnder7, fails→false (eqb (numberOf q) 7) (λ t. other (eqb→eq (numberOf q) 7 t)))); boardHeld = sym (rw (e, filledUnless)) }
 
 module _ (ch : Channel) (ring board : List ℕ) where

@@ -6,3 +6,4 @@ pub mod CodeLaws
 pub mod Tables
 pub mod TableLaws
 pub mod Outcomes
+pub mod LentLaws

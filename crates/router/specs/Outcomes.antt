@@ -35,6 +35,7 @@ use Rattle.drawing.specs.CodeLaws.{drawn-by}
 use Rattle.promises.specs.Proved.{trays-fit}
 use Rattle.router.specs.declared.Routing.{Routing}
 use Rattle.router.specs.declared.RouteAnswer.the-variants as route
+use Rattle.router.specs.Route.{routeTrays}
 use Rattle.router.specs.Tables.{recordsBy, Listed}
 use Rattle.router.specs.TableLaws.{made-records}
 use Rattle.router.specs.CodeLaws.{Held, refused-held, rows-refused, stuck-held, filled-held}
@@ -94,7 +95,7 @@ module _ (ch : Channel) (ring board : List ℕ) (hr : ringTray ≤ length ring) 
   rows-held r q e a n =
       let said = refused→some (rowsRefusal ch) q e in
       let low = rows-number ch q said in
-      refused-held ch ring board r q (rows-refused ch ring board hr hb q said) (λ seven. omega arith) a n
+      refused-held (routeTrays (length ring) (length board)) ch ring board r q (rows-refused ch ring board hr hb q said) (λ seven. omega arith) a n
 
   module _ (esc : Escapes ch) {ring′ : List ℕ} {f : Filled} (done : FillDone ch ring f ring′) (r : Routing) where
     -- the fill is stuck, and the ring is answered

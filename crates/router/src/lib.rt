@@ -4,8 +4,10 @@ ghost use mathlib.Core.List.{[], _∷_, _++_};
 ghost use Prim.Native.Nat.{_+_, _≤_, _<_};
 ghost use lib.ListN.{length, take};
 ghost use Rattle.channel.specs.Answers.{Escapes};
-ghost use Rattle.router.specs.Code.{RouteDone};
-ghost use Rattle.router.specs.CodeLaws.{Held};
+ghost use Rattle.lists.specs.Lists.{overlay};
+ghost use Rattle.router.specs.Route.{routeTraysWithRecords};
+ghost use Rattle.router.specs.Code.{RouteDone, RowsDone};
+ghost use Rattle.router.specs.CodeLaws.{HeldBy, Held};
 ghost use Rattle.router.specs.Tables.{recordsBy, Listed};
 use channel::RowsAnswer;
 use grid::Column;
@@ -35,9 +37,9 @@ struct Table {
     count: usize,
 }
 
-// A table with no record.
-fn no_records() -> Table
-    ensures { λ r. ⌜ Listed [] (r .records) (r .count) ⌝ }
+// Records of nobody, for a table that is yet to be filled.
+fn blank_records() -> [NetRecord; 511]
+    ensures { λ r. ⌜ length r ≡ 511 ⌝ }
 {
     let nobody = NetRecord {
         number: Net(0),
@@ -45,10 +47,15 @@ fn no_records() -> Table
         last: Column(0),
         track: Track(0),
     };
-    Table {
-        records: [nobody; 511],
-        count: 0,
-    }
+    [nobody; 511]
+}
+
+// A table with no record.
+fn no_records() -> Table
+    ensures { λ r. ⌜ Listed [] (r .records) (r .count) ⌝ }
+{
+    let records = blank_records();
+    Table { records, count: 0 }
 }
 
 // The table with one record more.
@@ -127,11 +134,10 @@ fn route_checked(top: &[u32], bot: &[u32], ring: &mut [u32], board: &mut [u8]) -
     }
 }
 
-// Routes rows of any lengths and numbers: refusals 1 and 3 to 7, in rising number. On success the front of `board` is the board file; under 7 the
-// front of `ring` is the ring's pairs; everything else that is lent stays as it was.
-pub fn route(top: &[u32], bot: &[u32], ring: &mut [u32], board: &mut [u8]) -> Routing
+// Routes rows of any lengths and numbers, with the records by value: refusals 1, of the buffers lent, and 3 to 7.
+fn route_by_value(top: &[u32], bot: &[u32], ring: &mut [u32], board: &mut [u8]) -> Routing
     ensures { λ r.
-        ⌜ RouteDone (record { top = now (top .entry); bot = now (bot .entry) }) (now (ring .entry)) (now (board .entry)) r (now (ring .exit)) (now (board .exit)) ⌝ }
+        ⌜ Held (record { top = now (top .entry); bot = now (bot .entry) }) (now (ring .entry)) (now (board .entry)) r (now (ring .exit)) (now (board .exit)) ⌝ }
 {
     if ring.len() < 1022 {
         return refused(Refusal::ShortTray(1022));
@@ -143,4 +149,88 @@ pub fn route(top: &[u32], bot: &[u32], ring: &mut [u32], board: &mut [u8]) -> Ro
         RowsAnswer::Refused(refusal) => refused(refusal),
         RowsAnswer::Accepted => route_checked(top, bot, ring, board),
     }
+}
+
+// The same where the caller lends a table of `room` records: one of under 511 is refused first.
+fn route_with_room(
+    top: &[u32],
+    bot: &[u32],
+    room: usize,
+    ring: &mut [u32],
+    board: &mut [u8],
+) -> Routing
+    ensures { λ r.
+        ⌜ HeldBy (routeTraysWithRecords room (length (now (ring .entry))) (length (now (board .entry)))) (record { top = now (top .entry); bot = now (bot .entry) }) (now (ring .entry)) (now (board .entry)) r (now (ring .exit)) (now (board .exit)) ⌝ }
+{
+    if room < 511 {
+        return refused(Refusal::ShortTray(511));
+    }
+    route_by_value(top, bot, ring, board)
+}
+
+// Stores the first `count` records of a table at the front of the caller's. The checker covers no slice of structs, so this loop is proved by a walk.
+fn store_records(records: &mut [NetRecord], made: [NetRecord; 511], count: usize)
+    requires { ⌜ (count ≤ 511) × (count ≤ length (now records)) ⌝ }
+    ensures { λ _. ⌜ now (records .exit) ≡ overlay (take count made) (now (records .entry)) ⌝ }
+{
+    let mut i: usize = 0;
+    while i < count {
+        records[i] = made[i];
+        i += 1;
+    }
+}
+
+// What the router answers beside what it stores: the count is that of the records at the front of the caller's table.
+pub struct Routed {
+    pub answer: RouteAnswer,
+    pub count: usize,
+}
+
+// The answer of a routing, without its table.
+fn routed_of(routing: Routing) -> Routed
+    ensures { λ r. ⌜ (r .answer ≡ routing .answer) × (r .count ≡ routing .count) ⌝ }
+{
+    let answer = routing.answer;
+    let count = routing.count;
+    Routed { answer, count }
+}
+
+// An answer and the table that it speaks of.
+fn routing_of(routed: Routed, records: [NetRecord; 511]) -> Routing
+    ensures { λ r. ⌜ (r .answer ≡ routed .answer) × (r .records ≡ records) × (r .count ≡ routed .count) ⌝ }
+{
+    let answer = routed.answer;
+    let count = routed.count;
+    Routing {
+        answer,
+        records,
+        count,
+    }
+}
+
+// Routes rows of any lengths and numbers: refusals 1 and 3 to 7, in rising number. On success the front of `records` is the net records, as many as the
+// answer counts, and the front of `board` the board file; under 7 the front of `ring` is the ring's pairs; everything else that is lent stays as it was.
+pub fn route(
+    top: &[u32],
+    bot: &[u32],
+    records: &mut [NetRecord],
+    ring: &mut [u32],
+    board: &mut [u8],
+) -> Routed
+    ensures { λ r.
+        ⌜ RouteDone (record { top = now (top .entry); bot = now (bot .entry) }) (now (records .entry)) (now (ring .entry)) (now (board .entry)) r (now (records .exit)) (now (ring .exit)) (now (board .exit)) ⌝ }
+{
+    let routing = route_with_room(top, bot, records.len(), ring, board);
+    store_records(records, routing.records, routing.count);
+    routed_of(routing)
+}
+
+// Routes with a table of its own, for callers that want the records by value: `route` over a table that it lends.
+pub fn route_rows(top: &[u32], bot: &[u32], ring: &mut [u32], board: &mut [u8]) -> Routing
+    ensures { λ r.
+        ⌜ RowsDone (record { top = now (top .entry); bot = now (bot .entry) }) (now (ring .entry)) (now (board .entry)) r (now (ring .exit)) (now (board .exit)) ⌝ }
+{
+    let mut table = blank_records();
+    let routed = route(top, bot, &mut table, ring, board);
+    routing_of(routed, table)
 }

@@ -9,7 +9,7 @@ use Rattle.pinlist.specs.declared.ReadAnswer.{ReadAnswer}
 use Rattle.pinlist.specs.Code.{ReadDone}
 use Rattle.router.specs.declared.Routing.{Routing}
 use Rattle.router.specs.Contract.{RoutePromise}
-use Rattle.router.specs.Code.{RouteDone}
+use Rattle.router.specs.Code.{RowsDone}
 use Rattle.judge.specs.declared.JudgeAnswer.{JudgeAnswer}
 use Rattle.judge.specs.Answers.{judgeTold}
 use Rattle.judge.specs.Promise.{Passable}
@@ -21,7 +21,7 @@ pub read-entry : {text top bot : List ℕ} {r : ReadAnswer} {top′ bot′ : Lis
 read-entry done e = record { answer = e ∙ ap readNumber (done .answer); topHeld = done .topHeld; botHeld = done .botHeld }
 
 -- the promise is about what `route` answered, which is the answer due
-pub route-entry : {ch : Channel} {ring board : List ℕ} {r : Routing} {ring′ board′ : List ℕ} {n : ℕ} → RouteDone ch ring board r ring′ board′ → n ≡ routeNumber (r .answer) → RouteEntry ch ring board n ring′ board′
+pub route-entry : {ch : Channel} {ring board : List ℕ} {r : Routing} {ring′ board′ : List ℕ} {n : ℕ} → RowsDone ch ring board r ring′ board′ → n ≡ routeNumber (r .answer) → RouteEntry ch ring board n ring′ board′
 route-entry {ch} {ring} {board} {r} {ring′} {board′} done e =
     record { answer = e ∙ ap routeNumber (done .answer); ringHeld = done .ringHeld; boardHeld = done .boardHeld; promise = λ a b c. subst (λ x. RoutePromise ch x ring′ board′) (done .answer) (done .promise a b c) }
 

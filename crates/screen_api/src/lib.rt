@@ -65,7 +65,7 @@ pub extern "C" fn cabjirt_route(top: &[u32], bot: &[u32], ring: &mut [u32], boar
     ensures { λ r.
         ⌜ RouteEntry (record { top = now (top .entry); bot = now (bot .entry) }) (now (ring .entry)) (now (board .entry)) r (now (ring .exit)) (now (board .exit)) ⌝ }
 {
-    let routing = router::route(top, bot, ring, board);
+    let routing = router::route_rows(top, bot, ring, board);
     let answer = routing.answer;
     match answer {
         RouteAnswer::Routed { tracks, pieces } => pieces as u64 * 65536 + tracks as u64,

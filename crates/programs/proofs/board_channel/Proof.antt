@@ -8,11 +8,11 @@ use Rattle.programs.specs.Code.{boardBytes}
 use Rattle.programs.proofs.board_channel.Statement.{statement}
 use Rattle.programs.proofs.board_channel.Tie as tie
 
-slice-aggregate-route : tie.Need-slice-aggregate-route
-slice-aggregate-route c = search needs
+slice-aggregate-route-rows : tie.Need-slice-aggregate-route-rows
+slice-aggregate-route-rows c = search needs
 
-route-requires : tie.Need-route-requires
-route-requires c κs = search needs
+route-rows-requires : tie.Need-route-rows-requires
+route-rows-requires c κs = search needs
 
 enum-known-answer : tie.Need-enum-known-answer
 enum-known-answer c = search needs
@@ -25,7 +25,7 @@ put-unrouted-requires c κs =
     let answer = c .before .before .before in
     let routed = answer .before .before .before .before .before in
     let start = routed .before .before .before .before .before .before in
-    (few-pairs _ (start .pre .0) (omega arith) (omega (arith, start .pre .1)) (routed .route .ensures) (answer .answer .given .1), omega (arith, routed .route .kept .1 .1 .0), omega (arith, start .pre .1, routed .route .kept .1 .1 .1 .0))
+    (few-pairs _ (start .pre .0) (omega arith) (omega (arith, start .pre .1)) (routed .route-rows .ensures) (answer .answer .given .1), omega (arith, routed .route-rows .kept .1 .1 .0), omega (arith, start .pre .1, routed .route-rows .kept .1 .1 .1 .0))
 
 enum-known-answer-2 : tie.Need-enum-known-answer-2
 enum-known-answer-2 c = search needs
@@ -48,8 +48,8 @@ returns c =
     let answer = p .before .before .before .before in
     let routed = answer .before .before .before .before .before in
     let start = routed .before .before .before .before .before .before in
-    let kept = unrouted-board _ (start .pre .0) (omega arith) (omega (arith, start .pre .1)) (routed .route .ensures) (answer .answer .given .1) in
-    (wrote-same (now (start .args .out)) (unrouted-output _ (start .pre .0) (omega arith) (omega (arith, start .pre .1)) (routed .route .ensures) (answer .answer .given .1) boardBytes) (rw kept at (p .put-unrouted .ensures .0)), p .put-unrouted .ensures .1)
+    let kept = unrouted-board _ (start .pre .0) (omega arith) (omega (arith, start .pre .1)) (routed .route-rows .ensures) (answer .answer .given .1) in
+    (wrote-same (now (start .args .out)) (unrouted-output _ (start .pre .0) (omega arith) (omega (arith, start .pre .1)) (routed .route-rows .ensures) (answer .answer .given .1) boardBytes) (rw kept at (p .put-unrouted .ensures .0)), p .put-unrouted .ensures .1)
 
 same-length-2 : tie.Need-same-length-2
 same-length-2 c = search needs
@@ -59,15 +59,15 @@ returns-2 c =
     let answer = c .before in
     let routed = answer .before .before .before .before .before in
     let start = routed .before .before .before .before .before .before in
-    let few = few-pieces _ (start .pre .0) (omega arith) (omega (arith, start .pre .1)) (routed .route .ensures) (answer .answer2 .given .1) in
-    ((routed-size _ (start .pre .0) (omega arith) (omega (arith, start .pre .1)) (routed .route .ensures) (answer .answer2 .given .1), routed-board _ (start .pre .0) (omega arith) (omega (arith, start .pre .1)) (routed .route .ensures) (answer .answer2 .given .1)), omega (arith, few))
+    let few = few-pieces _ (start .pre .0) (omega arith) (omega (arith, start .pre .1)) (routed .route-rows .ensures) (answer .answer2 .given .1) in
+    ((routed-size _ (start .pre .0) (omega arith) (omega (arith, start .pre .1)) (routed .route-rows .ensures) (answer .answer2 .given .1), routed-board _ (start .pre .0) (omega arith) (omega (arith, start .pre .1)) (routed .route-rows .ensures) (answer .answer2 .given .1)), omega (arith, few))
 
 pub board-channel-spec : {M : Type 1} → statement M
 board-channel-spec =
     tie.close
     (tie.spec
-    slice-aggregate-route
-    route-requires
+    slice-aggregate-route-rows
+    route-rows-requires
     enum-known-answer
     slice-aggregate-put-unrouted
     put-unrouted-requires

@@ -7,14 +7,14 @@ use Rattle.programs.specs.CodeLaws.{wrote-same, few-pairs, unrouted-outp
 use Rattle.programs.proofs.list_channel.Statement.{statement}
 use Rattle.programs.proofs.list_channel.Tie as tie
 
-slice-aggregate-route : tie.Need-slice-aggregate-route
-slice-aggregate-route c = search needs
+slice-aggregate-route-rows : tie.Need-slice-aggregate-route-rows
+slice-aggregate-route-rows c = search needs
 
-slice-aggregate-route-2 : tie.Need-slice-aggregate-route-2
-slice-aggregate-route-2 c = search needs
+slice-aggregate-route-rows-2 : tie.Need-slice-aggregate-route-rows-2
+slice-aggregate-route-rows-2 c = search needs
 
-route-requires : tie.Need-route-requires
-route-requires c κs = search needs
+route-rows-requires : tie.Need-route-rows-requires
+route-rows-requires c κs = search needs
 
 enum-known-answer : tie.Need-enum-known-answer
 enum-known-answer c = search needs
@@ -27,7 +27,7 @@ put-unrouted-requires c κs =
     let answer = c .before .before .before in
     let routed = answer .before .before .before .before in
     let start = routed .before .before .before .before .before .before in
-    (few-pairs _ (start .pre .0) (omega arith) (omega arith) (routed .route .ensures) (answer .answer .given .1), omega (arith, routed .route .kept .1 .1 .0), omega (arith, start .pre .1))
+    (few-pairs _ (start .pre .0) (omega arith) (omega arith) (routed .route-rows .ensures) (answer .answer .given .1), omega (arith, routed .route-rows .kept .1 .1 .0), omega (arith, start .pre .1))
 
 enum-known-answer-2 : tie.Need-enum-known-answer-2
 enum-known-answer-2 c = search needs
@@ -37,7 +37,7 @@ put-routed-requires c κs =
     let answer = c .before .before in
     let routed = answer .before .before .before .before in
     let start = routed .before .before .before .before .before .before in
-    (start .pre .0, few-tracks _ (start .pre .0) (omega arith) (omega arith) (routed .route .ensures) (answer .answer2 .given .1), few-records _ (start .pre .0) (omega arith) (omega arith) (routed .route .ensures) (answer .answer2 .given .1), start .pre .1)
+    (start .pre .0, few-tracks _ (start .pre .0) (omega arith) (omega arith) (routed .route-rows .ensures) (answer .answer2 .given .1), few-records _ (start .pre .0) (omega arith) (omega arith) (routed .route-rows .ensures) (answer .answer2 .given .1), start .pre .1)
 
 same-length : tie.Need-same-length
 same-length c = search needs
@@ -48,7 +48,7 @@ returns c =
     let answer = p .before .before .before .before in
     let routed = answer .before .before .before .before in
     let start = routed .before .before .before .before .before .before in
-    (wrote-same (now (start .args .out)) (unrouted-output _ (start .pre .0) (omega arith) (omega arith) (routed .route .ensures) (answer .answer .given .1) listing) (p .put-unrouted .ensures .0), p .put-unrouted .ensures .1)
+    (wrote-same (now (start .args .out)) (unrouted-output _ (start .pre .0) (omega arith) (omega arith) (routed .route-rows .ensures) (answer .answer .given .1) listing) (p .put-unrouted .ensures .0), p .put-unrouted .ensures .1)
 
 same-length-2 : tie.Need-same-length-2
 same-length-2 c = search needs
@@ -59,15 +59,15 @@ returns-2 c =
     let answer = p .before .before .before in
     let routed = answer .before .before .before .before in
     let start = routed .before .before .before .before .before .before in
-    (wrote-same (now (start .args .out)) (routed-listing _ (start .pre .0) (omega arith) (omega arith) (routed .route .ensures) (answer .answer2 .given .1)) (p .put-routed .ensures .0), p .put-routed .ensures .1)
+    (wrote-same (now (start .args .out)) (routed-listing _ (start .pre .0) (omega arith) (omega arith) (routed .route-rows .ensures) (answer .answer2 .given .1)) (p .put-routed .ensures .0), p .put-routed .ensures .1)
 
 pub list-channel-spec : {M : Type 1} → statement M
 list-channel-spec =
     tie.close
     (tie.spec
-    slice-aggregate-route
-    slice-aggregate-route-2
-    route-requires
+    slice-aggregate-route-rows
+    slice-aggregate-route-rows-2
+    route-rows-requires
     enum-known-answer
     slice-aggregate-put-unrouted
     put-unrouted-requires

@@ -1,4 +1,4 @@
--- `cabjirt_route` meets its contract: in both cases the number is that of what `route` answers, and the buffers are as `route` left them.
+-- `cabjirt_route` meets its contract: in both cases the number is that of what `route_rows` answers, and the buffers are as it left them.
 use mathlib.Core.Path.{sym, ap, _∙_}
 use Rattle.screen_api.specs.Numbers.{routeNumber}
 use Rattle.screen_api.specs.CodeLaws.{route-entry}
@@ -6,8 +6,8 @@ use borrow.Author.Needs.{needs}
 use Rattle.screen_api.proofs.cabjirt_route.Statement.{statement}
 use Rattle.screen_api.proofs.cabjirt_route.Tie as tie
 
-route-requires : tie.Need-route-requires
-route-requires c κs = search needs
+route-rows-requires : tie.Need-route-rows-requires
+route-rows-requires c κs = search needs
 
 enum-known-answer : tie.Need-enum-known-answer
 enum-known-answer c = search needs
@@ -38,7 +38,7 @@ same-length-2 c = search needs
 
 returns : tie.Need-returns
 unfolding routeNumber
-returns c = route-entry (c .before .before .before .before .before .before .before .route .ensures) (sym (ap routeNumber (c .before .answer .given .1)))
+returns c = route-entry (c .before .before .before .before .before .before .before .route-rows .ensures) (sym (ap routeNumber (c .before .answer .given .1)))
 
 same-length-3 : tie.Need-same-length-3
 same-length-3 c = search needs
@@ -48,13 +48,13 @@ same-length-4 c = search needs
 
 returns-2 : tie.Need-returns-2
 unfolding routeNumber
-returns-2 c = route-entry (c .before .before .before .before .before .before .before .before .route .ensures) (c .refused .ensures ∙ sym (ap routeNumber (c .before .before .answer2 .given .1)))
+returns-2 c = route-entry (c .before .before .before .before .before .before .before .before .route-rows .ensures) (c .refused .ensures ∙ sym (ap routeNumber (c .before .before .answer2 .given .1)))
 
 pub cabjirt-route-spec : {M : Type 1} → statement M
 cabjirt-route-spec =
     tie.close
     (tie.spec
-    route-requires
+    route-rows-requires
     enum-known-answer
     cast-result
     mul-result
