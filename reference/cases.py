@@ -51,19 +51,7 @@ class Cases:
         self.add(OPEN, file, self.told("OPEN", ask))
 
     def piece(self, number, file):
-        """The piece of a number. Of a file that does not open, a word that it lacks or that is out of range is no piece either."""
-
-        def ask():
-            if len(file) >= 4:
-                width, tracks, count, _ = channel.fields_of(file[:4], (10, 9, 12, 1))
-                word = file[4 * number:4 * number + 4]
-                if 1 <= number <= count and len(word) == 4:
-                    piece = channel.fields_of(word, (2, 10, 10, 10))
-                    if channel.piece_right(width, tracks, piece):
-                        return piece
-            raise channel.Refused(9, number)
-
-        self.add(PIECE, pair(number) + file, self.told("PIECE", ask))
+        self.add(PIECE, pair(number) + file, self.told("PIECE", channel.read_piece, file, number))
 
     def blank(self, tracks):
         self.add(BLANK, pair(tracks), self.told("BLANK", lambda: (channel.blank(tracks),)))

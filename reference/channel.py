@@ -205,6 +205,17 @@ def open_board(file):
     return width, tracks, pieces
 
 
+def read_piece(file, number):
+    """The piece of a number, from 1. A file that does not open has none."""
+    try:
+        pieces = open_board(file)[2]
+    except Refused:
+        pieces = []
+    if not 1 <= number <= len(pieces):
+        raise Refused(9, number)
+    return pieces[number - 1]
+
+
 # --- the judge ---------------------------------------------------------------------------------------------------------------
 
 def points_of(piece):

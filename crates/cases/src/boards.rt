@@ -15,7 +15,7 @@ fn put_three(a: u32, b: u32, c: u32) {
 
 pub fn answer_open(board: &[u8]) -> bool {
     output::put_word(b"OPEN");
-    match boardfile::open(board) {
+    match board_reader::open(board) {
         OpenAnswer::Board {
             width,
             tracks,
@@ -53,7 +53,7 @@ pub fn answer_piece(bytes: &[u8]) -> bool {
         return false;
     }
     output::put_word(b"PIECE");
-    match boardfile::piece_at(&bytes[2..], output::pair(bytes[0], bytes[1])) {
+    match board_reader::read_piece(&bytes[2..], output::pair(bytes[0], bytes[1])) {
         PieceAnswer::Found(piece) => put_piece(piece),
         PieceAnswer::Refused(refusal) => output::put_refusal(refusal),
     }

@@ -77,7 +77,7 @@ pub fn judge(top: &[u32], bot: &[u32], board: &[u8], scratch: &mut [u32]) -> Jud
     }
     match channel::check(top, bot) {
         channel::RowsAnswer::Refused(refusal) => JudgeAnswer::Refused(refusal),
-        channel::RowsAnswer::Accepted => match boardfile::open(board) {
+        channel::RowsAnswer::Accepted => match board_reader::open(board) {
             boardfile::OpenAnswer::Refused(refusal) => JudgeAnswer::Refused(refusal),
             boardfile::OpenAnswer::Board {
                 width,
