@@ -17,8 +17,8 @@ static struct verdict read_text(const uint8_t *text, size_t length, struct answe
 {
     if (length > INPUT_LIMIT)
         return (struct verdict){true, 0, INPUT_LIMIT};
-    return verdict_of(cabjirt_read(text, length, answer->rows[TOP_ROW], CABJIRT_ROW, answer->rows[BOT_ROW], CABJIRT_ROW),
-                      &answer->width);
+    uint64_t read = cabjirt_read(text, length, answer->rows[TOP_ROW], CABJIRT_ROW, answer->rows[BOT_ROW], CABJIRT_ROW);
+    return verdict_of(read, &answer->width);
 }
 
 static struct verdict find_bounds(struct answer *answer)

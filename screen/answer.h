@@ -1,4 +1,5 @@
-/* answer.h: what the shop answers: to a pin list, and to a board file against it. The only place that calls the entries of channel.h. */
+/* answer.h: what the shop answers: to a pin list, and to a board file against it. Only here the entries of channel.h
+ * are called. */
 #ifndef CABJIRT_ANSWER_H
 #define CABJIRT_ANSWER_H
 
@@ -13,7 +14,8 @@ struct verdict {
     uint32_t number, place;
 };
 
-/* The answer to a pin list. Under refusal 7 the rows, the width, the bounds and the ring hold; under another refusal none of them. */
+/* The answer to a pin list. Under refusal 7 the rows, the width, the bounds and the ring hold; under another refusal
+ * none of them does. */
 struct answer {
     struct verdict verdict;
     uint32_t width, tracks, pieces, blank, density, chain;

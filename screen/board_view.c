@@ -78,17 +78,20 @@ size_t board_view_line_of(const struct board_view *view, size_t row)
     return row > view->tracks + 1 ? 0 : 2 * (view->tracks + 1 - row);
 }
 
-/* The part of a trunk, a contact or a branch that lies on one line: its first and last cell, none where the piece is elsewhere. */
-static bool cells_on_line(const struct board_view *view, const struct piece *piece, size_t line, size_t *first, size_t *last)
+/* The part of a piece that lies on a line: its first and last cell. False where it is elsewhere, or not on the grid. */
+static bool cells_on_line(const struct board_view *view, const struct piece *piece, size_t line, size_t *first,
+                          size_t *last)
 {
-    uint32_t columns[2] = {piece->kind == TRUNK ? piece->from : piece->line, piece->kind == TRUNK ? piece->to : piece->line};
-    uint32_t rows[2] = {piece->kind == TRUNK ? piece->line : piece->from, piece->kind == TRUNK ? piece->line : piece->to};
-    if (piece->kind > CONTACT || columns[0] < 1 || columns[0] > columns[1] || columns[1] > view->width ||
-        rows[0] > rows[1] || rows[1] > view->tracks + 1)
+    bool along = piece->kind == TRUNK;
+    uint32_t left = along ? piece->from : piece->line, right = along ? piece->to : piece->line;
+    uint32_t low = along ? piece->line : piece->from, high = along ? piece->line : piece->to;
+    if (piece->kind > CONTACT || left < 1 || left > right || right > view->width)
         return false;
-    *first = board_view_cell_of(view, columns[0]);
-    *last = board_view_cell_of(view, columns[1]);
-    return line >= board_view_line_of(view, rows[1]) && line <= board_view_line_of(view, rows[0]);
+    if (low > high || high > view->tracks + 1)
+        return false;
+    *first = board_view_cell_of(view, left);
+    *last = board_view_cell_of(view, right);
+    return line >= board_view_line_of(view, high) && line <= board_view_line_of(view, low);
 }
 
 static void raster_line(const struct board_view *view, size_t line, size_t from, size_t count, uint8_t *flags)
@@ -121,8 +124,8 @@ static struct board_cell copper(uint8_t flags)
 }
 
 /* Writes a number so that its last digit stands in the last cell of its column, over what is there. */
-static void put_number(const struct board_view *view, uint32_t number, struct board_cell cell, size_t column, size_t from,
-                       size_t count, struct board_cell *cells)
+static void put_number(const struct board_view *view, uint32_t number, struct board_cell cell, size_t column,
+                       size_t from, size_t count, struct board_cell *cells)
 {
     for (size_t x = board_view_cell_of(view, column);; x--, number /= 10) {
         cell.ascii = (char)('0' + number % 10);
@@ -152,8 +155,9 @@ static void put_pins(const struct board_view *view, size_t line, size_t from, si
     for (size_t c = first_column(view, from); c <= last_column(view, from, count); c++) {
         size_t x = board_view_cell_of(view, c), position = line == 0 ? c : view->width + c;
         uint32_t net = pins == NULL ? 0 : pins[c - 1];
+        struct board_cell pin = {'0', LOOK_PIN, position == view->marked_position};
         if (net != 0)
-            put_number(view, net, (struct board_cell){'0', LOOK_PIN, position == view->marked_position}, c, from, count, cells);
+            put_number(view, net, pin, c, from, count, cells);
         else if (x >= from && x < from + count && cells[x - from].look == LOOK_BLANK)
             cells[x - from] = (struct board_cell){'.', LOOK_NO_PIN, false};
     }
@@ -206,13 +210,12 @@ void board_view_piece_words(const struct board_view *view, uint32_t number, char
         snprintf(words, PIECE_WORDS, "kind %u, line %u, from %u, to %u", p.kind, p.line, p.from, p.to);
 }
 
-void board_view_piece_place(const struct board_view *view, uint32_t number, size_t *line, size_t *cell)
+void board_view_piece_place(const struct board_view *view, uint32_t number, size_t *line, size_t *column)
 {
-    *line = *cell = 0;
+    *line = *column = 0;
     if (number < 1 || number > view->pieces)
         return;
     struct piece p = piece_of(view, number);
-    uint32_t column = p.kind == TRUNK ? p.from : p.line;
     *line = board_view_line_of(view, p.kind == TRUNK ? p.line : p.to);
-    *cell = column < 1 || column > view->width ? 0 : board_view_cell_of(view, column);
+    *column = p.kind == TRUNK ? p.from : p.line;
 }

@@ -1,8 +1,8 @@
 /* board_view.h: a board drawn in characters, from the bytes of its file.
  *
- * Columns run across, `pitch` cells each, the copper of a column in the last of them. Row r of the grid (t + 1 for the TOP pins, 0 for
- * the BOT pins) is line 2 * (t + 1 - r); the lines between show whether a branch goes on from one row to the next, and the cells between
- * two columns whether a trunk does. So two boards that differ in copper differ in the drawing. */
+ * Columns run across, `pitch` cells each, the copper of a column in the last of them. Row r of the grid (t + 1 for the
+ * TOP pins, 0 for the BOT pins) is line 2 * (t + 1 - r); the lines between show whether a branch goes on from one row
+ * to the next, and the cells between two columns whether a trunk does. So what is joined can be seen. */
 #ifndef CABJIRT_BOARD_VIEW_H
 #define CABJIRT_BOARD_VIEW_H
 
@@ -51,8 +51,8 @@ void board_view_ruler(const struct board_view *view, size_t from, size_t count, 
 /* What stands before a line. */
 void board_view_gutter(const struct board_view *view, size_t line, char gutter[GUTTER + 1]);
 
-/* A piece of the file in words, and the place of a piece, by number from 1: a line and a cell of the drawing. */
+/* A piece of the file, by number from 1: in words, and the line and the column where it begins at the top left. */
 void board_view_piece_words(const struct board_view *view, uint32_t number, char words[PIECE_WORDS]);
-void board_view_piece_place(const struct board_view *view, uint32_t number, size_t *line, size_t *cell);
+void board_view_piece_place(const struct board_view *view, uint32_t number, size_t *line, size_t *column);
 
 #endif

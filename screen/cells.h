@@ -12,8 +12,8 @@ enum {
 };
 
 enum style {
-    STYLE_PLAIN, STYLE_DIM, STYLE_STRONG, STYLE_BAR, STYLE_TRUNK, STYLE_BRANCH, STYLE_CONTACT, STYLE_CROSSING, STYLE_PIN,
-    STYLE_GOOD, STYLE_BAD, STYLE_MARK, STYLES
+    STYLE_PLAIN, STYLE_DIM, STYLE_STRONG, STYLE_BAR, STYLE_TRUNK, STYLE_BRANCH, STYLE_CONTACT, STYLE_CROSSING,
+    STYLE_PIN, STYLE_GOOD, STYLE_BAD, STYLE_MARK, STYLES
 };
 
 /* Sets the size and forgets what the terminal shows. */
@@ -29,7 +29,8 @@ bool cells_utf8(void);
 void cells_clear(void);
 void cells_put(int y, int x, uint32_t glyph, enum style style);
 
-/* Puts a text at x, up to the cell before `end`; answers the cell after it. A character that has not one cell's width is shown as ?. */
+/* Puts a text at x, up to the cell before `end`; answers the cell after it. A character that is not one cell wide is
+ * shown as ?. */
 int cells_text(int y, int x, int end, const char *text, enum style style);
 
 /* Gives the whole row a style, its glyphs kept. */

@@ -105,7 +105,8 @@ enum outcome order_load(struct order *order, const char *path)
 static enum outcome refused_first(struct order *order, const char *so)
 {
     const struct verdict *verdict = &order->answer.verdict;
-    say(order, "%s: the pin list is refused (%u %u, %s)", so, verdict->number, verdict->place, refusal_word(verdict->number));
+    say(order, "%s: the pin list is refused (%u %u, %s)", so, verdict->number, verdict->place,
+        refusal_word(verdict->number));
     return OUTCOME_REFUSED;
 }
 

@@ -38,7 +38,8 @@ void order_changed(struct order *order);
 const struct verdict *order_verdict(const struct order *order);
 bool order_view(const struct order *order, struct board_view *view);
 
-/* Width, tracks, blank, density, chain and pieces of a list that was not refused, or the tracks of a good board, or the refusal. */
+/* Width, tracks, blank, density, chain and pieces of a list that was not refused; or the tracks of a good board; or the
+ * refusal. */
 void order_summary(const struct order *order, char summary[MESSAGE_MOST]);
 
 /* Each of these leaves its message. FAILED is the system's doing, REFUSED the shop's. */
@@ -49,7 +50,8 @@ enum outcome order_load(struct order *order, const char *path);
 /* Writes the board file of the list; EXISTS where a file is there that is not to be replaced. */
 enum outcome order_save(struct order *order, const char *path, bool replace);
 
-/* Judges a board file against the list, and shows it, whatever the verdict. Refused where the list is, before the board is read. */
+/* Judges a board file against the list, and shows it, whatever the verdict. Refused where the list is, before the board
+ * is read. */
 enum outcome order_judge(struct order *order, const char *path);
 
 #endif

@@ -12,7 +12,7 @@ struct editor {
 
 enum edit { EDIT_NONE, EDIT_MOVED, EDIT_CHANGED, EDIT_FULL, EDIT_NO_CHARACTER };
 
-/* NONE is a key that means nothing here. FULL and NO_CHARACTER change nothing: the row has no room, or the byte cannot be typed. */
+/* NONE is a key that means nothing here. FULL: the row has no room. NO_CHARACTER: the byte cannot be typed. */
 enum edit editor_key(struct editor *editor, struct pin_text *pins, int key);
 
 /* Puts the cursor into the rows again after they were replaced, and scrolls so that it is among the cells shown. */

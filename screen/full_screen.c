@@ -41,7 +41,7 @@ static void after_edit(struct screen *screen, enum edit edit)
     screen->follows_cursor = true;
 }
 
-/* Answers the list if it was edited. Done before anything asks for the answer, so that keys typed ahead cost one answer. */
+/* Answers the list if it was edited. Done before anything asks for the answer: keys typed ahead cost one answer. */
 static void settle(struct screen *screen)
 {
     if (screen->answer_is_due)
@@ -190,7 +190,7 @@ static bool quits(int key)
     return key == KEY_HANG_UP || (!pasting && (key == KEY_F10 || key == CONTROL('Q')));
 }
 
-/* Takes keys until a moment passes without one: what was typed ahead, or a held key, is painted once. Answers the key that quits, if any. */
+/* Takes keys until none waits: what was typed ahead, or a held key, is painted once. Answers the key that quits. */
 static int take_keys(struct screen *screen)
 {
     for (int key = key_next(true); key != KEY_NONE; key = key_next(false)) {

@@ -77,10 +77,12 @@ static void print_rows(const struct order *order)
 
 static void print_cells(const char *gutter, const struct board_cell *cells, size_t count)
 {
-    size_t end = count;
+    size_t end = count, gutter_end = GUTTER;
     while (end > 0 && cells[end - 1].ascii == ' ')
         end--;
-    printf("%s", end > 0 ? gutter : "");
+    while (end == 0 && gutter_end > 0 && gutter[gutter_end - 1] == ' ')
+        gutter_end--;
+    printf("%.*s", (int)gutter_end, gutter);
     for (size_t i = 0; i < end; i++)
         putchar(cells[i].marked && cells[i].look != LOOK_PIN ? '#' : cells[i].ascii);
     putchar('\n');

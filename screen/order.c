@@ -2,7 +2,8 @@
  *
  *   order [PINS]
  *
- * In a terminal it fills the screen; where input or output is something else, or the terminal is a dumb one, it takes commands as lines. */
+ * In a terminal it fills the screen; where input or output is something else, or the terminal is a dumb one, it takes
+ * commands as lines. */
 #include <locale.h>
 #include <stdio.h>
 #include <stdlib.h>
@@ -15,7 +16,8 @@
 static bool on_a_terminal(void)
 {
     const char *kind = getenv("TERM");
-    return isatty(STDIN_FILENO) && isatty(STDOUT_FILENO) && kind != NULL && kind[0] != '\0' && strcmp(kind, "dumb") != 0;
+    bool dumb = kind == NULL || kind[0] == '\0' || strcmp(kind, "dumb") == 0;
+    return isatty(STDIN_FILENO) && isatty(STDOUT_FILENO) && !dumb;
 }
 
 int main(int count, char **words)

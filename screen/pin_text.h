@@ -1,4 +1,4 @@
-/* pin_text.h: a pin list as it is typed: two rows of bytes, the text that they make, and where each number stands in it. */
+/* pin_text.h: a pin list as it is typed: two rows of bytes, the text that they make, and where each number stands. */
 #ifndef CABJIRT_PIN_TEXT_H
 #define CABJIRT_PIN_TEXT_H
 
@@ -10,13 +10,13 @@ enum {
     TOP_ROW,
     BOT_ROW,
     ROWS,
-    ROW_LABEL = 4,                                   /* "TOP " and "BOT ", which nobody edits */
-    ROW_LIMIT = 65536,                               /* bytes that a row may hold after its label */
-    TEXT_MOST = ROWS * (ROW_LABEL + ROW_LIMIT + 1),  /* bytes of the longest text that two rows make */
-    NUMBERS_MOST = 513                               /* numbers whose cells are noted: the first too many is the last of them */
+    ROW_LABEL = 4,                                  /* "TOP " and "BOT ", which nobody edits */
+    ROW_LIMIT = 65536,                              /* bytes that a row may hold after its label */
+    TEXT_MOST = ROWS * (ROW_LABEL + ROW_LIMIT + 1), /* bytes of the longest text that two rows make */
+    NUMBERS_MOST = 513                              /* numbers whose cells are noted: with the first that is too many */
 };
 
-/* What stands after a label, up to the line feed. A cell of a row is an index into its bytes; the cell at `length` is its end. */
+/* What stands after a label, up to the line feed. A cell is an index into the bytes; that at `length` is the end. */
 struct row_text {
     uint8_t bytes[ROW_LIMIT];
     size_t length;

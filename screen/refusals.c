@@ -78,7 +78,8 @@ static void explain_lone_pin(const struct pin_text *pins, uint32_t net, struct f
             size_t first = numbers[r].first[k], last = numbers[r].last[k];
             if (last - first + 1 == length && memcmp(pins->rows[r].bytes + first, digits, length) == 0) {
                 mark_number(finding, r, k + 1);
-                snprintf(finding->words, WORDS_MOST, "net %u has just one pin, at %s column %zu", net, row_names[r], k + 1);
+                snprintf(finding->words, WORDS_MOST, "net %u has just one pin, at %s column %zu", net, row_names[r],
+                         k + 1);
             }
         }
 }

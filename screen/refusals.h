@@ -24,7 +24,8 @@ struct finding {
 /* The table's word for a number, 0 included. */
 const char *refusal_word(uint32_t number);
 
-/* Says a refusal of the list, or a fault of a board judged against it, in words and marks. A verdict that refuses nothing gives none of either. */
+/* Says a refusal of the list, or a fault of a board judged against it, in words and marks. Where nothing is refused
+ * there are none. */
 void refusal_explain(const struct pin_text *pins, const struct answer *answer, const struct verdict *verdict,
                      struct finding *finding);
 

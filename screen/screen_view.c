@@ -7,7 +7,9 @@
 #include "keys.h"
 
 /* The lines of the screen from above; the drawing takes what is left over two lines at the bottom. */
-enum { LINE_TITLE, LINE_TOP_MARKS, LINE_TOP, LINE_BOT, LINE_BOT_MARKS, LINE_VERDICT, LINE_MORE, LINE_RULER, LINE_DRAWING };
+enum {
+    LINE_TITLE, LINE_TOP_MARKS, LINE_TOP, LINE_BOT, LINE_BOT_MARKS, LINE_VERDICT, LINE_MORE, LINE_RULER, LINE_DRAWING
+};
 enum { BOTTOM_LINES = 2 };
 
 static size_t row_cells_shown(void)
@@ -29,10 +31,11 @@ static size_t drawing_cells(void)
 static void paint_bars(void)
 {
     int across = cells_across(), bottom = cells_rows() - 1;
-    cells_text(LINE_TITLE, 0, across, " Cabjirt order screen: TOP and BOT pins, one net number a column, 0 for no pin", STYLE_BAR);
+    cells_text(LINE_TITLE, 0, across, " Cabjirt order screen: TOP and BOT pins, one net number a column, 0 for no pin",
+               STYLE_BAR);
     cells_style_row(LINE_TITLE, STYLE_BAR);
     cells_text(bottom, 0, across,
-               " ^O load  ^S save  ^G judge  ^Q quit  ^N mark  ^U clear  PgUp PgDn ^arrows scroll", STYLE_BAR);
+               " ^O load  ^S save  ^G judge  ^Q quit  ^N to mark  ^U clear  PgUp/Dn ^arrows scroll", STYLE_BAR);
     cells_style_row(bottom, STYLE_BAR);
 }
 
@@ -98,10 +101,13 @@ static void paint_verdict(const struct screen *screen, const struct board_view *
 
 static void paint_cell(int y, int x, const struct board_cell *cell)
 {
-    static const uint32_t glyphs[] = {[LOOK_TRUNK] = 0x2500, [LOOK_BRANCH] = 0x2502, [LOOK_CROSSING] = 0x253C, [LOOK_CONTACT] = 0x25CF};
+    static const uint32_t glyphs[] = {
+        [LOOK_TRUNK] = 0x2500, [LOOK_BRANCH] = 0x2502, [LOOK_CROSSING] = 0x253C, [LOOK_CONTACT] = 0x25CF,
+    };
     static const enum style styles[] = {
-        [LOOK_BLANK] = STYLE_PLAIN, [LOOK_TRUNK] = STYLE_TRUNK, [LOOK_BRANCH] = STYLE_BRANCH, [LOOK_CROSSING] = STYLE_CROSSING,
-        [LOOK_CONTACT] = STYLE_CONTACT, [LOOK_PIN] = STYLE_PIN, [LOOK_NO_PIN] = STYLE_DIM, [LOOK_COLUMN] = STYLE_DIM,
+        [LOOK_BLANK] = STYLE_PLAIN, [LOOK_TRUNK] = STYLE_TRUNK, [LOOK_BRANCH] = STYLE_BRANCH,
+        [LOOK_CROSSING] = STYLE_CROSSING, [LOOK_CONTACT] = STYLE_CONTACT, [LOOK_PIN] = STYLE_PIN,
+        [LOOK_NO_PIN] = STYLE_DIM, [LOOK_COLUMN] = STYLE_DIM,
     };
     bool copper = cell->look >= LOOK_TRUNK && cell->look <= LOOK_CONTACT;
     cells_put(y, x, copper && cells_utf8() ? glyphs[cell->look] : (uint32_t)(unsigned char)cell->ascii,
@@ -114,7 +120,13 @@ static size_t cut(size_t scroll, size_t whole, size_t shown)
     return scroll < most ? scroll : most;
 }
 
-/* The line of the drawing that stands in the i-th line of its place: where not all fit, the pins of both rows stay in sight. */
+/* The cells of whole columns only: half a number would be another number. A narrower window shows what it can. */
+static size_t whole_columns(const struct board_view *view, size_t cells)
+{
+    return cells < view->pitch ? cells : cells / view->pitch * view->pitch;
+}
+
+/* The line of the drawing that stands in the i-th line of its place. Where not all fit, the pins stay in sight. */
 static size_t line_shown(const struct board_view *view, size_t i, size_t scroll)
 {
     size_t lines = board_view_lines(view), shown = drawing_lines();
@@ -137,27 +149,32 @@ static void paint_ruler(const struct screen *screen, const struct board_view *vi
     }
 }
 
-/* Where only part of the board is in sight, says which. */
+/* Where only part of the board is in sight, says which, at the right of the title. */
 static void paint_part(const struct screen *screen, const struct board_view *view, size_t count, size_t lines)
 {
     char text[120];
     if (count >= board_view_cells(view) && lines >= board_view_lines(view))
         return;
-    size_t first = screen->scroll_across / view->pitch + 1, last = (screen->scroll_across + count) / view->pitch;
-    int length = snprintf(text, sizeof text, "columns %zu to %zu of %u, %u tracks from line %zu", first, last, view->width,
-                          view->tracks, screen->scroll_down + 1);
+    size_t left = screen->scroll_across / view->pitch + 1, right = (screen->scroll_across + count) / view->pitch;
+    int length = snprintf(text, sizeof text, "  columns %zu to %zu of %u ", left, right, view->width);
+    if (lines > 2 && view->tracks > 0) {
+        size_t high = view->tracks + 1 - (line_shown(view, 1, screen->scroll_down) + 1) / 2;
+        size_t low = view->tracks + 1 - line_shown(view, lines - 2, screen->scroll_down) / 2;
+        length = snprintf(text, sizeof text, "  columns %zu to %zu of %u, tracks %zu to %zu of %u ", left, right,
+                          view->width, high, low, view->tracks);
+    }
     int x = cells_across() - length;
-    cells_text(LINE_MORE, x > 0 ? x : 0, cells_across(), text, STYLE_DIM);
+    cells_text(LINE_TITLE, x > 0 ? x : 0, cells_across(), text, STYLE_BAR);
 }
 
 static void paint_drawing(struct screen *screen, const struct board_view *view)
 {
     struct board_cell cells[CELLS_ACROSS];
     char gutter[GUTTER + 1];
-    size_t count = drawing_cells(), lines = drawing_lines();
+    size_t count = whole_columns(view, drawing_cells()), lines = drawing_lines();
     count = count < board_view_cells(view) ? count : board_view_cells(view);
     lines = lines < board_view_lines(view) ? lines : board_view_lines(view);
-    screen->scroll_across = cut(screen->scroll_across, board_view_cells(view), count);
+    screen->scroll_across = whole_columns(view, cut(screen->scroll_across, board_view_cells(view), count));
     screen->scroll_down = cut(screen->scroll_down, board_view_lines(view), lines);
     paint_ruler(screen, view, count);
     for (size_t i = 0; i < lines; i++) {
@@ -188,14 +205,15 @@ static void paint_hint(void)
 {
     static const char *const hints[] = {
         "A pin list has two rows of the same length, of up to 512 columns.",
-        "Each number is the net of a pin, 1 to 511, or 0 where there is none; one space parts two numbers.",
+        "Each number is the net of a pin, 1 to 511, or 0 where there is no pin.",
+        "One space parts two numbers.",
         "Every net has two pins or more.",
     };
     for (size_t i = 0; i < sizeof hints / sizeof *hints && i < drawing_lines(); i++)
         cells_text(LINE_DRAWING + (int)i, 2, cells_across(), hints[i], STYLE_DIM);
 }
 
-/* The bottom line of text: a question with its answer so far, or what came of the last command. Answers the cell after it. */
+/* A question with its answer so far, or what came of the last command. Answers the cell after it. */
 static int paint_message(const struct screen *screen)
 {
     static const char *const questions[] = {
@@ -241,19 +259,16 @@ void screen_paint(struct screen *screen)
                     ROW_LABEL + (int)(screen->editor.cell - screen->editor.scroll));
 }
 
-static void bring_cell_in(struct screen *screen, size_t first, size_t last)
-{
-    size_t shown = drawing_cells();
-    if (first < screen->scroll_across)
-        screen->scroll_across = first;
-    if (shown > 0 && last >= screen->scroll_across + shown)
-        screen->scroll_across = last - shown + 1;
-}
-
 static void bring_column_in(struct screen *screen, const struct board_view *view, size_t column)
 {
-    if (column >= 1 && column <= view->width)
-        bring_cell_in(screen, board_view_cell_of(view, column) + 1 - view->pitch, board_view_cell_of(view, column));
+    size_t shown = whole_columns(view, drawing_cells());
+    if (column < 1 || column > view->width || shown == 0)
+        return;
+    size_t last = board_view_cell_of(view, column), first = last + 1 - view->pitch;
+    if (first < screen->scroll_across)
+        screen->scroll_across = first;
+    if (last >= screen->scroll_across + shown)
+        screen->scroll_across = last - shown + 1;
 }
 
 void screen_follow_cursor(struct screen *screen)
@@ -267,15 +282,15 @@ void screen_follow_cursor(struct screen *screen)
 void screen_follow_fault(struct screen *screen)
 {
     struct board_view view;
-    size_t line = 0, cell = 0, shown = drawing_lines();
+    size_t line = 0, column = 0, shown = drawing_lines();
     screen->scroll_down = screen->scroll_across = 0;
     if (!order_view(screen->order, &view))
         return;
     if (view.marked_position != 0)
-        bring_column_in(screen, &view, view.marked_position <= view.width ? view.marked_position
-                                                                          : view.marked_position - view.width);
-    board_view_piece_place(&view, view.marked_piece, &line, &cell);
-    bring_cell_in(screen, cell, cell);
+        column = (view.marked_position - 1) % view.width + 1;
+    else if (view.marked_piece != 0)
+        board_view_piece_place(&view, view.marked_piece, &line, &column);
+    bring_column_in(screen, &view, column);
     screen->scroll_down = line > shown / 2 ? line - shown / 2 : 0;
 }
 

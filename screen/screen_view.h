@@ -9,7 +9,7 @@ struct screen {
     struct order *order;
     struct editor editor;
     struct prompt prompt;
-    size_t scroll_across, scroll_down; /* the first cell and the first line of the drawing, or of the ring's words, that is shown */
+    size_t scroll_across, scroll_down; /* cells and lines of the drawing, or of the ring's words, before those shown */
     bool message_is_bad;
     bool answer_is_due, follows_cursor; /* what is left to do after keys, before the next painting */
 };

@@ -39,7 +39,7 @@ static void give_back(void)
     tcsetattr(STDIN_FILENO, TCSAFLUSH, &before);
 }
 
-/* Ends as the signal would have it, the terminal given back first; all that is called here may be called in a handler. */
+/* Ends as the signal would have it, the terminal given back first. A handler may call all that is called here. */
 static void end_by_signal(int number)
 {
     give_back();
@@ -66,7 +66,9 @@ static void handle(int number, void (*handler)(int))
 
 static void handle_signals(void)
 {
-    static const int ending[] = {SIGINT, SIGTERM, SIGHUP, SIGQUIT, SIGABRT, SIGSEGV, SIGBUS, SIGFPE, SIGILL, SIGPIPE, SIGALRM};
+    static const int ending[] = {
+        SIGINT, SIGTERM, SIGHUP, SIGQUIT, SIGABRT, SIGSEGV, SIGBUS, SIGFPE, SIGILL, SIGPIPE, SIGALRM,
+    };
     sigset_t held;
     for (size_t i = 0; i < sizeof ending / sizeof *ending; i++)
         handle(ending[i], end_by_signal);
@@ -138,7 +140,7 @@ void terminal_send(const char *bytes, size_t length)
     }
 }
 
-/* Stops as the shell asked, and goes on when it says so. Where no shell could ever say so, the system does not stop us. */
+/* Stops as the shell asked, and goes on when it says so. Where no shell could say so, the system does not stop us. */
 static void stop_for_a_while(void)
 {
     sigset_t stop;

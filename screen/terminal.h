@@ -1,4 +1,5 @@
-/* terminal.h: the terminal itself: its settings, its size, bytes to it and keys from it. However the program ends, the settings are put back. */
+/* terminal.h: the terminal itself: its settings, its size, bytes to it and from it. However the program ends, the
+ * settings are put back. */
 #ifndef CABJIRT_TERMINAL_H
 #define CABJIRT_TERMINAL_H
 
@@ -15,8 +16,8 @@ void terminal_flush(void);
 
 enum waited { WAITED_BYTE, WAITED_RESIZE, WAITED_NOTHING, WAITED_END };
 
-/* The next byte from the keyboard, waiting at most so many milliseconds, or for ever if below 0. A resize, or coming back after a stop
- * (which takes the terminal over again), is told once. */
+/* The next byte from the keyboard, waiting at most so many milliseconds, or for ever if below 0. A resize is told once;
+ * so is coming back after a stop, when the terminal was taken over again. */
 enum waited terminal_wait(int milliseconds, unsigned char *byte);
 
 #endif
