@@ -43,5 +43,7 @@ int main(int count, char **words)
         return full_screen(&order, refused);
     if (refused)
         fprintf(stderr, "order: %s\n", order.message);
+    if (isatty(STDIN_FILENO))
+        fprintf(stderr, "order: no full screen here; type commands as lines (help lists them)\n");
     return line_mode(&order, refused);
 }

@@ -86,12 +86,12 @@ static void paint_verdict(const struct screen *screen, const struct board_view *
     enum style style = verdict->refused ? STYLE_BAD : STYLE_GOOD;
     size_t across = (size_t)cells_across();
     order_summary(screen->order, text);
-    size_t cut = strlen(text);
-    if (cut > across)
-        for (cut = across; cut > 1 && text[cut - 1] != ' '; cut--)
+    size_t broken = strlen(text);
+    if (broken > across)
+        for (broken = across; broken > 1 && text[broken - 1] != ' '; broken--)
             continue;
-    const char *rest = text + cut;
-    cells_text(LINE_VERDICT, 0, (int)(cut < across ? cut : across), text, style);
+    const char *rest = text + broken;
+    cells_text(LINE_VERDICT, 0, (int)broken, text, style);
     int x = cells_text(LINE_MORE, 0, cells_across(), rest, style);
     if (view != NULL && view->marked_piece != 0) {
         board_view_piece_words(view, view->marked_piece, words);
@@ -114,6 +114,7 @@ static void paint_cell(int y, int x, const struct board_cell *cell)
               cell->marked ? STYLE_MARK : styles[cell->look]);
 }
 
+/* A scroll that leaves no empty space at the end. */
 static size_t cut(size_t scroll, size_t whole, size_t shown)
 {
     size_t most = whole > shown ? whole - shown : 0;

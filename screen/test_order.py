@@ -34,6 +34,11 @@ def text_of(rows):
     return b"".join(b"%s %s\n" % (word, " ".join(map(str, row)).encode()) for word, row in zip((b"TOP", b"BOT"), rows))
 
 
+def written(rows):
+    """The board file that the program writes."""
+    return subprocess.run([str(BIN / "board_writer")], input=text_of(rows), stdout=subprocess.PIPE, check=True).stdout
+
+
 # --- drawings, made from points of the grid ---------------------------------------------------------------------------
 
 def drawing(rows, board):
@@ -133,7 +138,7 @@ def files(s, folder):
     s.type(LOAD + str(folder / "b.pins") + ENTER)
     s.expect_line("B: summary", VERDICT, "width 7  tracks 5  blank 8  density 4  chain 3  pieces 30")
     expect_drawing(s, "B: drawing", drawing(B, channel.board(text_of(B))))
-    due = subprocess.run([str(BIN / "board_writer")], input=text_of(B), stdout=subprocess.PIPE, check=True).stdout
+    due = written(B)
     s.type(SAVE + str(folder / "b.board") + ENTER)
     s.expect_start("saved", 22, "saved 124 bytes as")
     check("B: the file saved", (folder / "b.board").read_bytes(), due)
@@ -210,7 +215,7 @@ def sizes(s, folder):
     s.expect_start("the old window", 23, " ^O load")
     chain = (list(range(1, 512)) + [0], list(range(512)))
     (folder / "chain").write_bytes(text_of(chain))
-    due = drawing(chain, channel.board(text_of(chain)))
+    due = drawing(chain, written(chain))
     s.type(LOAD + str(folder / "chain") + ENTER)
     s.expect_start("the largest board", VERDICT, "width 512  tracks 511  blank 512  density 2  chain 511  pieces 2555")
     s.expect_line("its first track shown", RULER + 3, due[3][:77].rstrip())
@@ -232,6 +237,23 @@ def sizes(s, folder):
     s.expect("a folder", lambda: "not a regular file" in s.grid.line(22) or "Is a directory" in s.grid.line(22), True)
 
 
+def full_row(s, folder):
+    """A row takes 65,536 bytes and no more, whether typed or pasted."""
+    (folder / "digits").write_bytes(b"TOP " + b"1" * 65520 + b"\nBOT 1\n")
+    s.type(LOAD + str(folder / "digits") + ENTER)
+    s.expect_start("65,520 digits", VERDICT, "REFUSED 5 1  high net")
+    s.type(END + "2" * 16)
+    s.expect_start("16 more", VERDICT, "REFUSED 0 65536  too long")
+    bells = s.grid.bells
+    s.type("3")
+    s.expect_line("one too many", 22, "the row is full: it holds 65536 bytes")
+    check("one too many: a bell", s.grid.bells, bells + 1)
+    s.type("\x7f" * 20 + "\x1b[200~" + "4" * 30 + "\x1b[201~")
+    s.expect_line("a paste that has no room", 22, "the row is full: it holds 65536 bytes")
+    s.type("\xe9")
+    s.expect_line("no character of a list", 22, "a pin list has digits and spaces only")
+
+
 def in_a_terminal(folder):
     s = Session(ORDER)
     typing(s)
@@ -239,6 +261,7 @@ def in_a_terminal(folder):
     files(s, folder)
     judging(s, folder)
     sizes(s, folder)
+    full_row(s, folder)
     s.type(QUIT)
     s.finish("quit", 0)
     for name, number, key in (("SIGTERM", signal.SIGTERM, ""), ("Ctrl-C", signal.SIGINT, "\x03"),
@@ -254,8 +277,16 @@ def in_a_terminal(folder):
     s.expect_start("NO_COLOR", VERDICT, "width 4")
     colours = {n for line in s.grid.cells for _, style in line for n in style if n >= 30}
     check("NO_COLOR: no colours", colours, set())
+    s.type("\x1a" + UP + CLEAR)
+    s.expect_start("after Ctrl-Z, where no shell waits", VERDICT, "REFUSED 2 4")
     s.type(QUIT)
     s.finish("NO_COLOR", 0)
+    s, sent = Session(ORDER, TERM="dumb"), []
+    s.grid.feed = sent.append
+    s.type("TOP 1\nBOT 1\nshow\nquit\n")
+    s.finish("a dumb terminal", 0)
+    sent = b"".join(sent)
+    check("a dumb terminal gets lines", (b"width 1  tracks 0" in sent, b"\x1b" in sent), (True, False))
 
 
 def unicode_glyphs(folder):
