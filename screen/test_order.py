@@ -72,6 +72,10 @@ def expect_drawing(s, what, due):
 
 # --- in a terminal ----------------------------------------------------------------------------------------------------
 
+def marks(s):
+    return s.grid.line(TOP_MARKS), s.grid.line(BOT_MARKS)
+
+
 def typing(s):
     """Example A, then edits of it into refusals."""
     s.expect_start("an empty list", VERDICT, "REFUSED 2 4  garbled: TOP ends at byte 4")
@@ -116,7 +120,10 @@ def more_refusals(s):
     s.expect_line("D: marks over TOP", TOP_MARKS, "      v v")
     rows("1 1 1", "0 0")
     s.expect_start("uneven", VERDICT, "REFUSED 4 3  uneven:")
-    s.expect("uneven: marks", lambda: (s.grid.line(TOP_MARKS), s.grid.line(BOT_MARKS)), ("        v", "       ^"))
+    s.expect("uneven: marks", lambda: marks(s), ("        v", "       ^"))
+    rows("0", "1 1")
+    s.expect_start("uneven, TOP shorter", VERDICT, "REFUSED 4 2  uneven:")
+    s.expect("uneven, TOP shorter: marks", lambda: marks(s), ("     v", "      ^"))
     rows("1 1 512", "0 0 1000")
     s.expect_start("high net", VERDICT, "REFUSED 5 3  high net: the net at TOP column 3")
     s.expect_line("high net: mark", TOP_MARKS, "        vvv")
@@ -220,6 +227,11 @@ def sizes(s, folder):
     s.expect_start("the largest board", VERDICT, "width 512  tracks 511  blank 512  density 2  chain 511  pieces 2555")
     s.expect_line("its first track shown", RULER + 3, due[3][:77].rstrip())
     s.expect_line("BOT stays in sight", 21, due[-1][:77].rstrip())
+    s.type("\x1b[1;5C\x1b[1;5B")
+    s.expect_start("scrolled to the right", RULER, "col    10  11  12")
+    s.expect_line("scrolled down", RULER + 3, (due[4][:5] + due[4][41:113]).rstrip())
+    s.type("\x1b[1;5D\x1b[1;5A")
+    s.expect_start("scrolled back", RULER, "col     1   2   3")
     start = time.monotonic()
     s.type(PAGE_DOWN * 200 + END)
     s.expect("its last track shown", lambda: s.grid.line(20), last_columns(due, -2))
@@ -297,6 +309,10 @@ def unicode_glyphs(folder):
     due = [line.translate(table) for line in drawing(B, channel.board(text_of(B)))]
     due[0] = due[0].translate(str.maketrans("\u25cf", "o"))
     expect_drawing(s, "B in UTF-8", due)
+    s.type(LOAD + "\u00e9")
+    s.expect_line("a name in UTF-8", 22, "Load the pin list from file: \u00e9")
+    s.type("\x7f" + str(folder / "a.pins") + ENTER)
+    s.expect_start("one character erased", VERDICT, "width 4")
     s.type(QUIT)
     s.finish("UTF-8", 0)
 
@@ -350,11 +366,16 @@ def piped_mistakes(folder):
     complaint("a list refused first", b"TOP 1\nBOT 0\njudge %s\n" % os.fsencode(folder / "good"), "no board is judged")
     complaint("a row of 70,000 bytes", b"TOP " + b"0 " * 35000 + b"\n", "REFUSED 0 65536")
     complaint("a file of 70,000 bytes", b"load %s\n" % os.fsencode(folder / "text"), "REFUSED 0 65536")
+    (folder / "more").write_bytes(b"TOP 0\nBOT 0\nx")
+    complaint("a file with a third line", b"load %s\n" % os.fsencode(folder / "more"), "REFUSED 2 12")
     (folder / "cut").write_bytes(b"TOP 0 1\nBOT 1 0")
     complaint("a cut file", b"load %s\n" % os.fsencode(folder / "cut"), "REFUSED 2 15")
     complaint("a cut file at the start", b"", "REFUSED 2 15", 1, (folder / "cut",))
     complaint("an unreadable file at the start", b"", "cannot read", 2, (folder / "none",))
     complaint("wrong use", b"", "usage", 2, ("a", "b"))
+    (folder / "returns").write_bytes(b"TOP 1 1\r\nBOT 0 0\r\n")
+    out, _, status = piped(b"load %s\nshow\n" % os.fsencode(folder / "returns"))
+    check("a file with carriage returns", out[1:4] + [out[4][:11]], ["       v", "TOP 1 1?", "BOT 0 0?", "REFUSED 2 7"])
     out, _, status = piped(b"load %s\nshow\n" % os.fsencode(folder / "wide"))
     check("piped M", [line[:13] for line in out if line.startswith("REFUSED")], ["REFUSED 3 513"])
     out, _, status = piped(b"TOP" + b" 0" * 32768 + b"\nBOT 0\nshow\n")
