@@ -63,10 +63,13 @@ static void load(struct screen *screen)
 
 static void judge(struct screen *screen)
 {
-    enum outcome outcome = order_judge(screen->order, screen->prompt.text);
+    struct order *order = screen->order;
+    enum outcome outcome = order_judge(order, screen->prompt.text);
     told(screen, outcome);
-    if (outcome == OUTCOME_DONE)
-        screen_follow_fault(screen);
+    if (outcome != OUTCOME_DONE)
+        return;
+    snprintf(order->message, sizeof order->message, "this is the file's board; Esc goes back to the list's own");
+    screen_follow_fault(screen);
 }
 
 static void save(struct screen *screen, bool replace)

@@ -35,7 +35,7 @@ static void paint_bars(void)
                STYLE_BAR);
     cells_style_row(LINE_TITLE, STYLE_BAR);
     cells_text(bottom, 0, across,
-               " ^O load  ^S save  ^G judge  ^Q quit  ^N to mark  ^U clear  PgUp/Dn ^arrows scroll", STYLE_BAR);
+               " ^O load  ^S save  ^G judge  ^Q quit  ^N mark  ^U clear  PgUp PgDn ^Arrows view", STYLE_BAR);
     cells_style_row(bottom, STYLE_BAR);
 }
 

@@ -30,6 +30,7 @@ LOAD, SAVE, JUDGE, QUIT, MARK, CLEAR, ENTER, ESCAPE = "\x0f", "\x13", "\x07", "\
 # lines of the screen
 TOP_MARKS, TOP_LINE, BOT_LINE, BOT_MARKS, VERDICT, MORE, RULER = range(1, 8)
 
+
 def text_of(rows):
     return b"".join(b"%s %s\n" % (word, " ".join(map(str, row)).encode()) for word, row in zip((b"TOP", b"BOT"), rows))
 
@@ -91,7 +92,9 @@ def typing(s):
         "  1    |  o--o  |", "       |  |     |", "BOT    1  2  .  3"])
     s.expect("A: colour of a trunk", lambda: s.grid.cells[RULER + 3][8], ("-", (36,)))
     s.expect("A: colour of a branch", lambda: s.grid.cells[RULER + 4][7], ("|", (33,)))
-    s.type("\x7f")
+    s.type(LEFT * 3 + RIGHT)
+    s.expect("A: cursor moved", lambda: (s.grid.y, s.grid.x), (BOT_LINE, 9))
+    s.type(END + "\x7f")
     s.expect_start("a number due", VERDICT, "REFUSED 2 22  garbled: BOT ends")
     s.expect_line("a number due: mark", BOT_MARKS, " " * 10 + "^")
     s.type("0")
