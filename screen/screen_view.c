@@ -12,9 +12,10 @@ enum {
 };
 enum { BOTTOM_LINES = 2 };
 
+/* The last cell of the screen is kept for a sign that a row goes on. */
 static size_t row_cells_shown(void)
 {
-    return cells_across() > ROW_LABEL + 1 ? (size_t)(cells_across() - ROW_LABEL) : 1;
+    return cells_across() > ROW_LABEL + 2 ? (size_t)(cells_across() - ROW_LABEL - 1) : 1;
 }
 
 static size_t drawing_lines(void)
@@ -75,6 +76,10 @@ static void paint_row(const struct screen *screen, int row, int y, int marks_y)
         if (marked)
             cells_put(marks_y, x, row == TOP_ROW ? 'v' : '^', STYLE_BAD);
     }
+    if (first > 0)
+        cells_put(y, ROW_LABEL - 1, '<', STYLE_DIM);
+    if (end < text->length)
+        cells_put(y, cells_across() - 1, '>', STYLE_DIM);
     paint_marks_beyond(finding, row, marks_y, first, end);
 }
 

@@ -229,6 +229,7 @@ def sizes(s, folder):
     s.type(LOAD + str(folder / "chain") + ENTER)
     s.expect_start("the largest board", VERDICT, "width 512  tracks 511  blank 512  density 2  chain 511  pieces 2555")
     s.expect_line("its first track shown", RULER + 3, due[3][:77].rstrip())
+    s.expect("its rows go on", lambda: s.grid.line(TOP_LINE)[-3:] + s.grid.line(BOT_LINE)[-3:], "8 > 2>")
     s.expect_line("BOT stays in sight", 21, due[-1][:77].rstrip())
     s.type("\x1b[1;5C\x1b[1;5B")
     s.expect_start("scrolled to the right", RULER, "col    10  11  12")
