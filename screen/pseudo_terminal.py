@@ -4,6 +4,7 @@ import fcntl
 import os
 import pty
 import re
+import resource
 import select
 import struct
 import subprocess
@@ -88,6 +89,12 @@ class Grid:
         return [x for x, (_, style) in enumerate(self.cells[y]) if 7 in style]
 
 
+def prepare():
+    """In the new process: the terminal becomes its own, and a signal that ends it leaves no file behind."""
+    fcntl.ioctl(0, termios.TIOCSCTTY, 0)
+    resource.setrlimit(resource.RLIMIT_CORE, (0, 0))
+
+
 class Session:
     """A program in a pseudo-terminal of its own."""
 
@@ -99,7 +106,7 @@ class Session:
         settings = {**os.environ, "TERM": "xterm", "LC_ALL": "C", **environment}
         self.process = subprocess.Popen(
             [str(program), *map(str, arguments)], stdin=self.slave, stdout=self.slave, stderr=self.slave, env=settings,
-            start_new_session=True, preexec_fn=lambda: fcntl.ioctl(0, termios.TIOCSCTTY, 0))
+            start_new_session=True, preexec_fn=prepare)
 
     def window(self, rows, across):
         fcntl.ioctl(self.slave, termios.TIOCSWINSZ, struct.pack("HHHH", rows, across, 0, 0))

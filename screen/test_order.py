@@ -240,7 +240,7 @@ def sizes(s, folder):
     s.type(PAGE_DOWN * 200 + END)
     s.expect("its last track shown", lambda: s.grid.line(20), last_columns(due, -2))
     s.expect_line("the cursor's column is in sight", RULER, last_columns(due, 0))
-    check("200 pages and the end of the row in 2 seconds", time.monotonic() - start < 2, True)
+    check("200 pages and the end of the row in 4 seconds", time.monotonic() - start < 4, True)
     (folder / "wide").write_bytes(text_of(([0] * 513, [0] * 513)))
     s.type(LOAD + str(folder / "wide") + ENTER)
     s.expect_start("M, 513 columns", VERDICT, "REFUSED 3 513  too wide")
