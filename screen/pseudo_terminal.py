@@ -103,7 +103,8 @@ class Session:
         self.grid = Grid(rows, across)
         self.window(rows, across)
         self.before = termios.tcgetattr(self.slave)
-        settings = {**os.environ, "TERM": "xterm", "LC_ALL": "C", **environment}
+        outside = {name: value for name, value in os.environ.items() if name != "NO_COLOR"}
+        settings = {**outside, "TERM": "xterm", "LC_ALL": "C", **environment}
         self.process = subprocess.Popen(
             [str(program), *map(str, arguments)], stdin=self.slave, stdout=self.slave, stderr=self.slave, env=settings,
             start_new_session=True, preexec_fn=prepare)
@@ -117,7 +118,7 @@ class Session:
         self.window(rows, across)
 
     def take(self, seconds):
-        """Feeds what the screen sends within so many seconds, up to the first pause after something came."""
+        """Feeds what the program sends next, if anything comes within so many seconds."""
         if select.select([self.master], [], [], seconds)[0]:
             try:
                 self.grid.feed(os.read(self.master, 65536))
@@ -130,6 +131,8 @@ class Session:
         data = keys.encode()
         while data:
             readable, writable, _ = select.select([self.master], [self.master], [], PATIENCE)
+            if not readable and not writable:
+                raise Failure(f"the program takes no keys: {data[:20]!r} is left")
             if readable:
                 self.take(0)
             if writable:
