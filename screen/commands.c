@@ -1,0 +1,155 @@
+#include "commands.h"
+
+#include <stdarg.h>
+#include <stdio.h>
+#include <string.h>
+
+static void say(struct order *order, const char *format, ...)
+{
+    va_list values;
+    va_start(values, format);
+    vsnprintf(order->message, sizeof order->message, format, values);
+    va_end(values);
+    for (char *c = order->message; *c != '\0'; c++) /* file names may have anything in them */
+        if ((unsigned char)*c < 0x20 || *c == 0x7F)
+            *c = '?';
+}
+
+void order_changed(struct order *order)
+{
+    order->judged.shown = false;
+    answer_pins(&order->pins, &order->answer);
+    refusal_explain(&order->pins, &order->answer, &order->answer.verdict, &order->finding);
+}
+
+const struct verdict *order_verdict(const struct order *order)
+{
+    return order->judged.shown ? &order->judged.verdict : &order->answer.verdict;
+}
+
+bool order_view(const struct order *order, struct board_view *view)
+{
+    const struct answer *answer = &order->answer;
+    const struct verdict *verdict = order_verdict(order);
+    if (!order->judged.shown) {
+        if (verdict->refused || !board_view_open(view, answer->board, answer_board_length(answer)))
+            return false;
+        board_view_pins(view, answer->rows[TOP_ROW], answer->rows[BOT_ROW]);
+        return true;
+    }
+    if (!board_view_open(view, order->judged.bytes, order->judged.length))
+        return false;
+    if (view->width == answer->width)
+        board_view_pins(view, answer->rows[TOP_ROW], answer->rows[BOT_ROW]);
+    if (verdict->refused && (verdict->number == 9 || verdict->number == 13))
+        view->marked_piece = verdict->place;
+    if (verdict->refused && (verdict->number == 11 || verdict->number == 12))
+        view->marked_position = verdict->place;
+    return true;
+}
+
+void order_summary(const struct order *order, char summary[MESSAGE_MOST])
+{
+    const struct answer *answer = &order->answer;
+    const struct verdict *verdict = order_verdict(order);
+    if (verdict->refused)
+        snprintf(summary, MESSAGE_MOST, "REFUSED %u %u  %s: %s", verdict->number, verdict->place,
+                 refusal_word(verdict->number), order->finding.words);
+    else if (order->judged.shown)
+        snprintf(summary, MESSAGE_MOST, "GOOD %u  the board is good, on %u tracks", order->judged.tracks,
+                 order->judged.tracks);
+    else
+        snprintf(summary, MESSAGE_MOST, "width %u  tracks %u  blank %u  density %u  chain %u  pieces %u", answer->width,
+                 answer->tracks, answer->blank, answer->density, answer->chain, answer->pieces);
+}
+
+/* Says why a file with no two labelled lines is no pin list. */
+static void say_garbled(struct order *order, const char *path, const uint8_t *text, size_t length)
+{
+    struct verdict verdict = answer_text(text, length);
+    size_t line = 1, start = 0;
+    for (size_t i = 0; i < verdict.place && i < length; i++)
+        if (text[i] == '\n') {
+            line++;
+            start = i + 1;
+        }
+    say(order, "REFUSED %u %u  %s: not loaded, %s %s at line %zu, byte %zu", verdict.number, verdict.place,
+        refusal_word(verdict.number), path, verdict.place < length ? "is no pin list" : "ends too early", line,
+        verdict.place - start + 1);
+}
+
+enum outcome order_load(struct order *order, const char *path)
+{
+    static uint8_t text[INPUT_LIMIT];
+    size_t length = 0;
+    const char *why = "";
+    enum file_outcome outcome = file_read(path, text, sizeof text, &length, &why);
+    if (outcome == FILE_FAILED) {
+        say(order, "cannot read %s: %s", path, why);
+        return OUTCOME_FAILED;
+    }
+    if (outcome == FILE_TOO_LONG) {
+        say(order, "REFUSED 0 %d  not loaded: %s has more than %d bytes", INPUT_LIMIT, path, INPUT_LIMIT);
+        return OUTCOME_REFUSED;
+    }
+    if (!pin_text_take(&order->pins, text, length)) {
+        say_garbled(order, path, text, length);
+        return OUTCOME_REFUSED;
+    }
+    order_changed(order);
+    say(order, "loaded %s", path);
+    return OUTCOME_DONE;
+}
+
+/* Says that a command finds the list refused. */
+static enum outcome refused_first(struct order *order, const char *so)
+{
+    const struct verdict *verdict = &order->answer.verdict;
+    say(order, "%s: the pin list is refused (%u %u, %s)", so, verdict->number, verdict->place,
+        refusal_word(verdict->number));
+    return OUTCOME_REFUSED;
+}
+
+enum outcome order_save(struct order *order, const char *path, bool replace)
+{
+    const struct answer *answer = &order->answer;
+    const char *why = "";
+    if (answer->verdict.refused)
+        return refused_first(order, "there is no board to save");
+    enum file_outcome outcome = file_write(path, answer->board, answer_board_length(answer), replace, &why);
+    if (outcome == FILE_EXISTS) {
+        say(order, "%s exists", path);
+        return OUTCOME_EXISTS;
+    }
+    if (outcome != FILE_DONE) {
+        say(order, "cannot write %s: %s", path, why);
+        return OUTCOME_FAILED;
+    }
+    say(order, "saved %zu bytes as %s", answer_board_length(answer), path);
+    return OUTCOME_DONE;
+}
+
+enum outcome order_judge(struct order *order, const char *path)
+{
+    static uint8_t bytes[INPUT_LIMIT];
+    size_t length = 0;
+    const char *why = "";
+    struct judged *judged = &order->judged;
+    if (!answer_has_rows(&order->answer))
+        return refused_first(order, "no board is judged");
+    enum file_outcome outcome = file_read(path, bytes, sizeof bytes, &length, &why);
+    if (outcome == FILE_FAILED) {
+        say(order, "cannot read %s: %s", path, why);
+        return OUTCOME_FAILED;
+    }
+    judged->shown = true;
+    judged->tracks = 0;
+    judged->length = outcome == FILE_DONE ? length : 0;
+    memcpy(judged->bytes, bytes, judged->length);
+    judged->verdict = (struct verdict){true, 0, INPUT_LIMIT};
+    if (outcome == FILE_DONE)
+        judged->verdict = answer_judge(&order->answer, judged->bytes, judged->length, &judged->tracks);
+    refusal_explain(&order->pins, &order->answer, &judged->verdict, &order->finding);
+    say(order, "judged %s", path);
+    return OUTCOME_DONE;
+}

@@ -1,0 +1,57 @@
+/* commands.h: an order as it stands, and what loading, saving and judging do to it; the same for keys and for words. */
+#ifndef CABJIRT_COMMANDS_H
+#define CABJIRT_COMMANDS_H
+
+#include "answer.h"
+#include "board_view.h"
+#include "files.h"
+#include "refusals.h"
+
+enum {
+    PATH_LIMIT = 4096,
+    MESSAGE_MOST = PATH_LIMIT + WORDS_MOST
+};
+
+enum outcome { OUTCOME_DONE, OUTCOME_REFUSED, OUTCOME_EXISTS, OUTCOME_FAILED };
+
+/* The board file that was judged last. */
+struct judged {
+    bool shown; /* until the list changes */
+    struct verdict verdict;
+    uint32_t tracks;
+    uint8_t bytes[INPUT_LIMIT];
+    size_t length;
+};
+
+struct order {
+    struct pin_text pins;
+    struct answer answer;
+    struct judged judged;
+    struct finding finding;     /* of the verdict that is shown: the judge's, or else the router's */
+    char message[MESSAGE_MOST]; /* what came of the last command, in one line */
+};
+
+/* Answers the list anew; to be called after every change of it. */
+void order_changed(struct order *order);
+
+/* The verdict that is shown, and whether a board is there to be drawn for it. */
+const struct verdict *order_verdict(const struct order *order);
+bool order_view(const struct order *order, struct board_view *view);
+
+/* Width, tracks, blank, density, chain and pieces of a list that was not refused; or the tracks of a good board; or the
+ * refusal. */
+void order_summary(const struct order *order, char summary[MESSAGE_MOST]);
+
+/* Each of these leaves its message. FAILED is the system's doing, REFUSED the shop's. */
+
+/* Takes a pin list from a file. A file that two typed rows cannot show is refused and changes nothing. */
+enum outcome order_load(struct order *order, const char *path);
+
+/* Writes the board file of the list; EXISTS where a file is there that is not to be replaced. */
+enum outcome order_save(struct order *order, const char *path, bool replace);
+
+/* Judges a board file against the list, and shows it, whatever the verdict. Refused where the list is, before the board
+ * is read. */
+enum outcome order_judge(struct order *order, const char *path);
+
+#endif

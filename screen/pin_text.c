@@ -1,0 +1,100 @@
+#include "pin_text.h"
+
+#include <string.h>
+
+const char *const row_names[ROWS] = {"TOP", "BOT"};
+static const char *const labels[ROWS] = {"TOP ", "BOT "};
+
+bool row_insert(struct row_text *row, size_t cell, uint8_t byte)
+{
+    if (row->length >= ROW_LIMIT || cell > row->length)
+        return false;
+    memmove(row->bytes + cell + 1, row->bytes + cell, row->length - cell);
+    row->bytes[cell] = byte;
+    row->length++;
+    return true;
+}
+
+bool row_remove(struct row_text *row, size_t cell)
+{
+    if (cell >= row->length)
+        return false;
+    row->length--;
+    memmove(row->bytes + cell, row->bytes + cell + 1, row->length - cell);
+    return true;
+}
+
+bool row_set(struct row_text *row, const uint8_t *bytes, size_t length)
+{
+    if (length > ROW_LIMIT)
+        return false;
+    memcpy(row->bytes, bytes, length);
+    row->length = length;
+    return true;
+}
+
+size_t row_column(const struct row_text *row, size_t cell)
+{
+    size_t column = 1;
+    for (size_t i = 0; i < cell && i < row->length; i++)
+        column += row->bytes[i] == ' ';
+    return column;
+}
+
+void row_find_numbers(const struct row_text *row, struct row_numbers *numbers)
+{
+    numbers->count = 0;
+    for (size_t i = 0, start = 0; i <= row->length; i++) {
+        if (i < row->length && row->bytes[i] != ' ')
+            continue;
+        if (i > start && numbers->count < NUMBERS_MOST) {
+            numbers->first[numbers->count] = start;
+            numbers->last[numbers->count] = i - 1;
+        }
+        numbers->count += i > start;
+        start = i + 1;
+    }
+}
+
+size_t pin_text_compose(const struct pin_text *pins, uint8_t text[TEXT_MOST])
+{
+    size_t length = 0;
+    for (int r = 0; r < ROWS; r++) {
+        const struct row_text *row = &pins->rows[r];
+        memcpy(text + length, labels[r], ROW_LABEL);
+        memcpy(text + length + ROW_LABEL, row->bytes, row->length);
+        length += ROW_LABEL + row->length;
+        text[length++] = '\n';
+    }
+    return length;
+}
+
+bool pin_text_take(struct pin_text *pins, const uint8_t *text, size_t length)
+{
+    const uint8_t *lines[ROWS];
+    size_t lengths[ROWS], at = 0;
+    for (int r = 0; r < ROWS; r++) {
+        const uint8_t *feed = at < length ? memchr(text + at, '\n', length - at) : NULL;
+        if (feed == NULL || (size_t)(feed - (text + at)) < ROW_LABEL || memcmp(text + at, labels[r], ROW_LABEL) != 0)
+            return false;
+        lines[r] = text + at + ROW_LABEL;
+        lengths[r] = (size_t)(feed - lines[r]);
+        at = (size_t)(feed - text) + 1;
+    }
+    if (at != length || lengths[TOP_ROW] > ROW_LIMIT || lengths[BOT_ROW] > ROW_LIMIT)
+        return false;
+    for (int r = 0; r < ROWS; r++)
+        row_set(&pins->rows[r], lines[r], lengths[r]);
+    return true;
+}
+
+struct text_place pin_text_place(const struct pin_text *pins, size_t offset)
+{
+    size_t lengths[ROWS] = {pins->rows[TOP_ROW].length, pins->rows[BOT_ROW].length};
+    size_t second = ROW_LABEL + lengths[TOP_ROW] + 1;
+    struct text_place place = {offset < second ? TOP_ROW : BOT_ROW, offset < second ? offset : offset - second};
+    place.cell = place.cell < ROW_LABEL ? 0 : place.cell - ROW_LABEL;
+    if (place.cell > lengths[place.row])
+        place.cell = lengths[place.row];
+    return place;
+}

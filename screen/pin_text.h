@@ -1,0 +1,63 @@
+/* pin_text.h: a pin list as it is typed: two rows of bytes, the text that they make, and where each number stands. */
+#ifndef CABJIRT_PIN_TEXT_H
+#define CABJIRT_PIN_TEXT_H
+
+#include <stdbool.h>
+#include <stddef.h>
+#include <stdint.h>
+
+enum {
+    TOP_ROW,
+    BOT_ROW,
+    ROWS,
+    ROW_LABEL = 4,                                  /* "TOP " and "BOT ", which nobody edits */
+    ROW_LIMIT = 65536,                              /* bytes that a row may hold after its label */
+    TEXT_MOST = ROWS * (ROW_LABEL + ROW_LIMIT + 1), /* bytes of the longest text that two rows make */
+    NUMBERS_MOST = 513                              /* numbers whose cells are noted: with the first that is too many */
+};
+
+/* What stands after a label, up to the line feed. A cell is an index into the bytes; that at `length` is the end. */
+struct row_text {
+    uint8_t bytes[ROW_LIMIT];
+    size_t length;
+};
+
+struct pin_text {
+    struct row_text rows[ROWS];
+};
+
+/* A cell of one of the rows. */
+struct text_place {
+    int row;
+    size_t cell;
+};
+
+/* Where the numbers of a row stand: number k at cells first[k - 1] to last[k - 1]. */
+struct row_numbers {
+    size_t count;
+    size_t first[NUMBERS_MOST], last[NUMBERS_MOST];
+};
+
+extern const char *const row_names[ROWS];
+
+/* Each of these answers whether it could: a full row takes no byte, and a cell past the end has none. */
+bool row_insert(struct row_text *row, size_t cell, uint8_t byte);
+bool row_remove(struct row_text *row, size_t cell);
+bool row_set(struct row_text *row, const uint8_t *bytes, size_t length);
+
+/* The column of the number that a cell belongs to, as far as spaces tell. */
+size_t row_column(const struct row_text *row, size_t cell);
+
+/* Notes the cells of the first NUMBERS_MOST numbers, in a row that is well formed; `count` counts them all. */
+void row_find_numbers(const struct row_text *row, struct row_numbers *numbers);
+
+/* Writes the text of both rows, as a program would get it; answers its length. */
+size_t pin_text_compose(const struct pin_text *pins, uint8_t text[TEXT_MOST]);
+
+/* Takes both rows from a text of two labelled lines. Any other text is not taken, and no such text is a pin list. */
+bool pin_text_take(struct pin_text *pins, const uint8_t *text, size_t length);
+
+/* The cell that a byte of the text stands in. */
+struct text_place pin_text_place(const struct pin_text *pins, size_t offset);
+
+#endif
