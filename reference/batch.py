@@ -1,0 +1,114 @@
+"""Questions to the C entries, for batch.c: how they are packed, what line channel.py says is due, and how one is shown to people."""
+import struct
+import subprocess
+from pathlib import Path
+
+import channel
+
+ROOT = Path(__file__).resolve().parent.parent
+PROGRAM = ROOT / "target" / "batch"
+READ, BOUNDS, ROUTE, JUDGE, BLANK = range(5)
+NAMES = ("read", "bounds", "route", "judge", "blank")
+HEADER = struct.Struct(">BB5I")
+
+
+class Case:
+    """A question, packed, and the line due."""
+
+    __slots__ = ("question", "due")
+
+    def __init__(self, kind, due, fill=0, lent=(0, 0), top=(), bot=(), data=b""):
+        head = HEADER.pack(kind, fill, *lent, len(top), len(bot), len(data))
+        self.question = head + struct.pack(f">{len(top) + len(bot)}I", *top, *bot) + data
+        self.due = due
+
+    def number(self):
+        """The number of the answer due: 0 or that of a refusal or fault."""
+        return int(self.due.split(" ", 1)[0])
+
+    def kind(self):
+        return self.question[0]
+
+
+def joined(*parts):
+    return " ".join(str(part) for part in parts if part != "")
+
+
+def listed(numbers):
+    return " ".join(map(str, numbers))
+
+
+def read(text, fill=0, top=channel.ROW, bot=channel.ROW):
+    """The case of a text, read into rows lent with so many numbers."""
+    answer, rows = (), ((), ())
+    try:
+        if min(top, bot) < channel.ROW:
+            raise channel.Refused(1, channel.ROW)
+        rows = channel.parse(text)
+        channel.check(*rows)
+        answer = (0, len(rows[0]))
+    except channel.Refused as refusal:
+        answer, rows = (refusal.number, refusal.place), ((), ())
+    due = joined(*answer, "top", listed(rows[0]), "kept bot", listed(rows[1]), "kept inputs kept")
+    return Case(READ, due, fill, (top, bot), data=text)
+
+
+def bounds(top, bot, fill=0):
+    try:
+        density, chain = channel.bounds(top, bot)
+        answer = (0, density * 65536 + chain)
+    except channel.Refused as refusal:
+        answer = (refusal.number, refusal.place)
+    return Case(BOUNDS, joined(*answer, "inputs kept"), fill, top=top, bot=bot)
+
+
+def route(top, bot, fill=0, ring=channel.RING, board=channel.BOARD):
+    pairs, file = (), b""
+    try:
+        tracks, _, pieces = channel.route(top, bot, ring, board)
+        answer, file = (0, len(pieces) * 65536 + tracks), channel.encode(len(top), tracks, pieces)
+    except channel.Refused as refusal:
+        answer, pairs = (refusal.number, refusal.place), [n for pair in refusal.ring for n in pair]
+    due = joined(*answer, "ring", listed(pairs), "kept board", file.hex(), "kept inputs kept")
+    return Case(ROUTE, due, fill, (ring, board), top, bot)
+
+
+def judge(top, bot, file, fill=0, scratch=channel.SCRATCH):
+    try:
+        answer = (0, channel.judge(top, bot, file, scratch))
+    except channel.Refused as refusal:
+        answer = (refusal.number, refusal.place)
+    return Case(JUDGE, joined(*answer, "scratch kept inputs kept"), fill, (scratch, 0), top, bot, file)
+
+
+def blank(tracks):
+    try:
+        answer = (0, channel.blank(tracks))
+    except channel.Refused as refusal:
+        answer = (refusal.number, refusal.place)
+    return Case(BLANK, joined(*answer, "inputs kept"), lent=(tracks, 0))
+
+
+def shown(question):
+    """A question for people: what is asked, the rows as a pin list, the bytes in hexadecimal."""
+    kind, fill, *rest = HEADER.unpack_from(question)
+    lent, (top, bot, count) = rest[:2], rest[2:]
+    numbers = struct.unpack_from(f">{top + bot}I", question, HEADER.size)
+    lines = [f"{NAMES[kind]}, lent {lent[0]} and {lent[1]}, fill {fill}"]
+    if kind in (BOUNDS, ROUTE, JUDGE):
+        lines += [joined("TOP", listed(numbers[:top])), joined("BOT", listed(numbers[top:]))]
+    if kind in (READ, JUDGE):
+        lines.append(f"{count} bytes {question[len(question) - count:].hex()}")
+    return "\n".join(lines)
+
+
+def build():
+    """Compiles batch.c; what is wrong with it goes to standard error."""
+    library = ROOT / "target" / "staticlib" / "libscreen_api.a"
+    subprocess.run(["cc", "-std=c11", "-O2", "-Wall", "-Wextra", "-Werror", f"-I{ROOT / 'screen'}", str(ROOT / "reference" / "batch.c"),
+                    str(library), "-o", str(PROGRAM)], check=True)
+
+
+def answers(questions):
+    """The lines that one run of the batch program answers."""
+    return subprocess.run([str(PROGRAM)], input=b"".join(questions), stdout=subprocess.PIPE, check=True).stdout.decode("ascii").splitlines()
