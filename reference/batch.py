@@ -29,6 +29,23 @@ class Case:
     def kind(self):
         return self.question[0]
 
+    def inputs(self):
+        """The rows, and the text or board file."""
+        *_, top, bot, count = HEADER.unpack_from(self.question)
+        numbers = list(struct.unpack_from(f">{top + bot}I", self.question, HEADER.size))
+        return (numbers[:top], numbers[top:]), self.question[len(self.question) - count:]
+
+    def shown(self):
+        """The question for people: what is asked, the rows as a pin list, the bytes in hexadecimal."""
+        kind, fill, first, second = HEADER.unpack_from(self.question)[:4]
+        (top, bot), data = self.inputs()
+        lines = [f"{NAMES[kind]}, lent {first} and {second}, fill {fill}"]
+        if kind in (BOUNDS, ROUTE, JUDGE):
+            lines += [joined("TOP", listed(top)), joined("BOT", listed(bot))]
+        if kind in (READ, JUDGE):
+            lines.append(f"{len(data)} bytes {data.hex()}")
+        return "\n".join(lines)
+
 
 def joined(*parts):
     return " ".join(str(part) for part in parts if part != "")
@@ -87,19 +104,6 @@ def blank(tracks):
     except channel.Refused as refusal:
         answer = (refusal.number, refusal.place)
     return Case(BLANK, joined(*answer, "inputs kept"), lent=(tracks, 0))
-
-
-def shown(question):
-    """A question for people: what is asked, the rows as a pin list, the bytes in hexadecimal."""
-    kind, fill, *rest = HEADER.unpack_from(question)
-    lent, (top, bot, count) = rest[:2], rest[2:]
-    numbers = struct.unpack_from(f">{top + bot}I", question, HEADER.size)
-    lines = [f"{NAMES[kind]}, lent {lent[0]} and {lent[1]}, fill {fill}"]
-    if kind in (BOUNDS, ROUTE, JUDGE):
-        lines += [joined("TOP", listed(numbers[:top])), joined("BOT", listed(numbers[top:]))]
-    if kind in (READ, JUDGE):
-        lines.append(f"{count} bytes {question[len(question) - count:].hex()}")
-    return "\n".join(lines)
 
 
 def build():
