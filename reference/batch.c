@@ -213,6 +213,7 @@ int main(void)
 {
     uint8_t header[HEADER];
     size_t got;
+    setvbuf(stdout, NULL, _IOLBF, 1 << 16); /* if an entry ends the program, the lines before it are out */
     while ((got = fread(header, 1, HEADER, stdin)) == HEADER)
         answer(header);
     if (got)

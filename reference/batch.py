@@ -7,6 +7,7 @@ import channel
 
 ROOT = Path(__file__).resolve().parent.parent
 PROGRAM = ROOT / "target" / "batch"
+LIBRARY = ROOT / "target" / "staticlib" / "libscreen_api.a"
 READ, BOUNDS, ROUTE, JUDGE, BLANK = range(5)
 NAMES = ("read", "bounds", "route", "judge", "blank")
 HEADER = struct.Struct(">BB5I")
@@ -106,13 +107,15 @@ def blank(tracks):
     return Case(BLANK, joined(*answer, "inputs kept"), lent=(tracks, 0))
 
 
-def build():
-    """Compiles batch.c; what is wrong with it goes to standard error."""
-    library = ROOT / "target" / "staticlib" / "libscreen_api.a"
-    subprocess.run(["cc", "-std=c11", "-O2", "-Wall", "-Wextra", "-Werror", f"-I{ROOT / 'screen'}", str(ROOT / "reference" / "batch.c"),
-                    str(library), "-o", str(PROGRAM)], check=True)
+def build(entries=LIBRARY, program=PROGRAM):
+    """Compiles batch.c with the entries; what is wrong goes to standard error."""
+    subprocess.run(["cc", "-std=c11", "-O2", "-Wall", "-Wextra", "-Werror", f"-I{ROOT / 'screen'}", str(ROOT / "reference" / "batch.c"), str(entries),
+                    "-o", str(program)], check=True)
 
 
-def answers(questions):
-    """The lines that one run of the batch program answers."""
-    return subprocess.run([str(PROGRAM)], input=b"".join(questions), stdout=subprocess.PIPE, check=True).stdout.decode("ascii").splitlines()
+def answers(questions, program=PROGRAM):
+    """The line of each question, of one run of the batch program. Where it ends too soon, the lines that lack say so."""
+    run = subprocess.run([str(program)], input=b"".join(questions), stdout=subprocess.PIPE, stderr=subprocess.PIPE, check=False)
+    lines = run.stdout.decode("ascii").splitlines()
+    ended = joined("no answer, ended with status", run.returncode, run.stderr.decode("ascii", "replace").strip())
+    return lines + [ended] * (len(questions) - len(lines))

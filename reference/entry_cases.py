@@ -10,6 +10,7 @@ import random_texts
 import row_cases
 import text_cases
 
+FEATURES = ("several trunks a net", "a tangled channel", "copper at an edge place without a pin")
 SMALL_CHANNELS = [([a, b], [c, d]) for a in range(3) for b in range(3) for c in range(3) for d in range(3)
                   if all((a, b, c, d).count(net) != 1 for net in (1, 2))]
 
@@ -139,11 +140,12 @@ def features(case):
     rows, file = case.inputs()
     _, tracks, pieces = channel.open_board(file)
     groups = random_boards.groups_of(pieces)
+    several, tangled, unpinned = FEATURES
     if any(sum(p[0] == random_boards.TRUNK for p in group) > 1 for group in groups):
-        yield "several trunks a net"
+        yield several
     try:
         channel.fill(*rows)
     except channel.Refused:
-        yield "a tangled channel"
+        yield tangled
     if any(rows[row][column - 1] == 0 for group in groups for row, column in random_boards.edges_of(group, tracks)):
-        yield "copper at an edge place without a pin"
+        yield unpinned

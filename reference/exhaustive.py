@@ -245,7 +245,7 @@ def free(top, bot):
 
 def floor_differences():
     """Where no column holds pins of two nets, no layout, split trunks included, has fewer tracks than the density."""
-    for width, tracks in [(1, 0), (2, 0), (3, 0), (4, 0), (4, 1), (5, 0)]:
+    for width, tracks in [(1, 0), (2, 0), (3, 0), (4, 0), (4, 1), (5, 0), (5, 1)]:
         good = channels_of(reached(width, tracks, shortest_pieces(width, tracks)), False)
         for top, bot in shapes(width):
             if free(top, bot) and key_of(top, bot) in good and channel.bounds(list(top), list(bot))[0] > tracks:
@@ -294,8 +294,11 @@ def asked(seed):
     rng = random.Random(f"{seed} exhaustive")
     rows = [r for width in (1, 2, 3) for r in named_channels(width, 3)]
     rows += [random_channels.renumbered(rng, list(top), list(bot)) for top, bot in shapes(4)]
-    five = [random_channels.narrow(rng, 5) for _ in range(4000)]
-    return rows + [random_channels.renumbered(rng, *r) for r in five if len(r[0]) == 5]
+    for _ in range(6000):
+        top, bot = random_channels.narrow(rng, 5) if rng.random() < 0.7 else random_channels.tangled(rng, 5)
+        if len(top) == 5:
+            rows.append(random_channels.renumbered(rng, top, bot))
+    return rows
 
 
 def router_differences(channels, found):
