@@ -1,6 +1,7 @@
 """Questions to the C entries, for batch.c: how they are packed, what line channel.py says is due, and how one is shown to people."""
 import struct
 import subprocess
+import sys
 from pathlib import Path
 
 import channel
@@ -107,10 +108,23 @@ def blank(tracks):
     return Case(BLANK, joined(*answer, "inputs kept"), lent=(tracks, 0))
 
 
+def need(path):
+    """Ends with one line if a file is not there."""
+    if not path.exists():
+        print(f"compare: {path} is not there; ./test builds it", file=sys.stderr)
+        sys.exit(2)
+
+
 def build(entries=LIBRARY, program=PROGRAM):
-    """Compiles batch.c with the entries; what is wrong goes to standard error."""
-    subprocess.run(["cc", "-std=c11", "-O2", "-Wall", "-Wextra", "-Werror", f"-I{ROOT / 'screen'}", str(ROOT / "reference" / "batch.c"), str(entries),
-                    "-o", str(program)], check=True)
+    """Compiles batch.c with the entries."""
+    need(entries)
+    source, header = ROOT / "reference" / "batch.c", ROOT / "screen"
+    command = ["cc", "-std=c11", "-O2", "-Wall", "-Wextra", "-Werror", "-I", header, source, entries, "-o", program]
+    try:
+        subprocess.run(list(map(str, command)), check=True)
+    except (OSError, subprocess.CalledProcessError) as failure:
+        print(f"compare: {source} could not be compiled: {failure}", file=sys.stderr)
+        sys.exit(2)
 
 
 def answers(questions, program=PROGRAM):

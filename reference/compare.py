@@ -88,20 +88,13 @@ def run(name, part, *arguments):
     return not difference
 
 
-def missing_file():
-    """The first file that is needed and not there, or None."""
-    needed = [program_cases.BINS / name for name in PROGRAMS] + [batch.LIBRARY]
-    return next((path for path in needed if not path.exists()), None)
-
-
 def main(arguments):
     alone = arguments == ["--self-test"]
     if len(arguments) > 1 or (arguments and arguments[0].startswith("-") and not alone):
         print("usage: compare.py [SEED | --self-test]", file=sys.stderr)
         return 2
-    if missing_file():
-        print(f"compare: {missing_file()} is not there; ./test builds it", file=sys.stderr)
-        return 2
+    for name in PROGRAMS:
+        batch.need(program_cases.BINS / name)
     batch.build()
     right = run("self-test", self_test.compare, first_difference, lacking)
     if alone or not right:

@@ -108,6 +108,9 @@ def fixed_job(_):
     for rows in row_cases.channels():
         yield batch.route(*rows)
         yield batch.bounds(*rows)
+    tall = row_cases.chained(511)  # 511 tracks, the most that there can be
+    tracks, _, pieces = channel.draw(*tall)
+    yield batch.judge(*tall, channel.encode(512, tracks, pieces))
     for pieces in (random_boards.SPLIT, random_boards.SPLIT * 2, random_boards.SPLIT[1:]):
         yield batch.judge(*random_boards.SPLIT_ROWS, channel.encode(3, 3, pieces))
     for fill in (2, 3):
@@ -120,7 +123,7 @@ def fixed_job(_):
             yield batch.judge([], [700], b"", fill, scratch)
 
 
-JOBS = ((fixed_job, 1), (small_board_job, 1), (wide_job, 16), (maze_job, 20), (own_board_job, 10), (channel_job, 10), (scatter_job, 6), (text_job, 12))
+JOBS = ((fixed_job, 1), (small_board_job, 1), (wide_job, 12), (maze_job, 10), (own_board_job, 10), (channel_job, 10), (scatter_job, 6), (text_job, 12))
 
 
 def jobs(seed):

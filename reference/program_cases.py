@@ -65,6 +65,16 @@ def text_job(rng):
         yield from both([text_cases.text(*random_channels.refused(rng)), random_texts.noise(rng)])
 
 
+def bench_job(_):
+    """The paper's examples, faults H to J of A among them."""
+    yield from both(text for text, _ in examples.LISTED.values())
+    width, tracks, pieces = channel.open_board(channel.board(examples.A))
+    for changed in (pieces, pieces[:7] + pieces[8:], pieces[:3] + [(1, 2, 1, 3)] + pieces[4:], pieces + [(0, 2, 3, 4)]):
+        yield Case("board_judge", examples.A, channel.encode(width, tracks, changed))
+    yield Case("board_judge", examples.A, channel.encode(width, tracks, pieces + [(3, 1, 1, 2)]))
+    yield Case("board_judge", examples.A, channel.encode(width + 1, tracks, pieces))
+
+
 def wide_job(rng):
     for _ in range(15):
         yield from both([text_cases.text(*random_channels.wide(rng))])
@@ -110,7 +120,7 @@ def file_job(rng):
     yield Case("board_judge", text, channel.encode(4, 2, full) + bytes(rng.randint(1, 9)))
 
 
-JOBS = ((long_job, 1), (wide_job, 1), (file_job, 1), (board_job, 2), (text_job, 2))
+JOBS = ((long_job, 1), (wide_job, 1), (file_job, 1), (bench_job, 1), (board_job, 2), (text_job, 2))
 
 
 def jobs(seed):

@@ -8,7 +8,7 @@ def renumbered(rng, top, bot):
     """The same channel with other net numbers, gaps among them; the lowest and the highest number are drawn often."""
     nets = sorted(set(top + bot) - {0})
     numbers = set(rng.sample(NETS, len(nets)))
-    if nets and rng.random() < 0.3:
+    if 0 < len(nets) < 500 and rng.random() < 0.3:
         numbers = set(rng.sample(range(2, 511), len(nets) - 1)) | {rng.choice((1, 511))}
     numbers = list(numbers)
     rng.shuffle(numbers)
