@@ -2,6 +2,7 @@
 import batch
 import channel
 import exhaustive
+import layout_search
 import program_cases
 import text_cases
 
@@ -59,7 +60,7 @@ def buffer_faults():
 def search_faults():
     """A search that finds a layout of a tangled channel, or none of another, or one of another number of tracks."""
     rows = [([1, 2], [2, 1]), ROWS, ([7, 7], [0, 0])]
-    found = {exhaustive.shape_of(*r): exhaustive.fewest(exhaustive.shape_of(*r)) for r in rows}
+    found = {exhaustive.shape_of(*r): layout_search.fewest(exhaustive.shape_of(*r)) for r in rows}
     if list(exhaustive.router_differences(rows, found)):
         yield "the router and the search differ"
     for top, bot in rows:
