@@ -4,14 +4,15 @@
  *
  *     kind      1 byte: 0 read, 1 bounds, 2 route, 3 judge, 4 blank
  *     fill      1 byte: what the lent buffers hold before; if it is odd, a buffer of length 0 is lent as NULL
- *     lent      2 numbers of 4 bytes: the lengths of the buffers that the entry writes (read: TOP, BOT; route: ring, board;
- *               judge: scratch, and one that is not used; blank: its tracks, and one that is not used)
+ *     lent      2 numbers of 4 bytes: the lengths of the buffers that the entry writes (read: TOP, BOT; route: ring,
+ *               board; judge: scratch, and one that is not used; blank: its tracks, and one that is not used)
  *     lengths   3 numbers of 4 bytes: of TOP, of BOT, of the text or board file
  *     data      the numbers of TOP and BOT, 4 bytes each, then the text or board file
  *
- * A line is the number and value of the answer, then for each buffer that the entry writes: its name; its front, whose length the answer tells;
- * and `kept`, or `changed` with the offset of the first byte that changed outside the front, guards before and after the buffer included.
- * Scratch may hold anything, so only its guards are looked at. Last comes the same of the inputs. */
+ * A line is the number and value of the answer, then for each buffer that the entry writes: its name; its front, whose
+ * length the answer tells; and `kept`, or `changed` with the offset of the first byte that changed outside the front,
+ * guards before and after the buffer included. Scratch may hold anything, so only its guards are looked at. Last comes
+ * whether the inputs were kept. */
 #include <stdio.h>
 #include <stdlib.h>
 #include <string.h>
@@ -137,8 +138,8 @@ static void ask_route(const struct question *q)
 static void ask_judge(const struct question *q)
 {
     struct buffer scratch = lend("scratch", sizeof(uint32_t), q->lent[0], q->fill);
-    put_answer(cabjirt_judge(q->top, q->top_length, q->bot, q->bot_length, q->bytes, q->bytes_length, start_of(&scratch),
-                             scratch.length));
+    put_answer(cabjirt_judge(q->top, q->top_length, q->bot, q->bot_length, q->bytes, q->bytes_length,
+                             start_of(&scratch), scratch.length));
     printf(" %s", scratch.name);
     put_kept(&scratch, scratch.length);
     free(scratch.memory);
@@ -192,8 +193,8 @@ static void answer(const uint8_t *header)
     uint32_t numbers[LENT + LENGTHS];
     for (size_t i = 0; i < LENT + LENGTHS; i++)
         numbers[i] = number_at(header + 2 + 4 * i);
-    struct question q = {.kind = header[0], .fill = header[1], .top_length = numbers[LENT], .bot_length = numbers[LENT + 1],
-                         .bytes_length = numbers[LENT + 2]};
+    struct question q = {.kind = header[0], .fill = header[1], .top_length = numbers[LENT],
+                         .bot_length = numbers[LENT + 1], .bytes_length = numbers[LENT + 2]};
     if (q.top_length > LONGEST || q.bot_length > LONGEST || q.bytes_length > LONGEST)
         fail("a length is over 1048576");
     memcpy(q.lent, numbers, sizeof q.lent);

@@ -1,4 +1,4 @@
-"""Questions to the C entries, for batch.c: how they are packed, what line channel.py says is due, and how one is shown to people."""
+"""Questions to the C entries, for batch.c: how they are packed, and the line that is due by channel.py."""
 import struct
 import subprocess
 import sys
@@ -11,6 +11,7 @@ PROGRAM = ROOT / "target" / "batch"
 LIBRARY = ROOT / "target" / "staticlib" / "libscreen_api.a"
 READ, BOUNDS, ROUTE, JUDGE, BLANK = range(5)
 NAMES = ("read", "bounds", "route", "judge", "blank")
+WORKERS = 2  # processes that make cases
 HEADER = struct.Struct(">BB5I")
 
 
@@ -59,7 +60,6 @@ def listed(numbers):
 
 def read(text, fill=0, top=channel.ROW, bot=channel.ROW):
     """The case of a text, read into rows lent with so many numbers."""
-    answer, rows = (), ((), ())
     try:
         if min(top, bot) < channel.ROW:
             raise channel.Refused(1, channel.ROW)
@@ -128,8 +128,8 @@ def build(entries=LIBRARY, program=PROGRAM):
 
 
 def answers(questions, program=PROGRAM):
-    """The line of each question, of one run of the batch program. Where it ends too soon, the lines that lack say so."""
-    run = subprocess.run([str(program)], input=b"".join(questions), stdout=subprocess.PIPE, stderr=subprocess.PIPE, check=False)
+    """The line of each question, of one run of the batch program. If it ends too soon, the lines that lack say so."""
+    run = subprocess.run([str(program)], input=b"".join(questions), capture_output=True, check=False)
     lines = run.stdout.decode("ascii").splitlines()
     ended = joined("no answer, ended with status", run.returncode, run.stderr.decode("ascii", "replace").strip())
     return lines + [ended] * (len(questions) - len(lines))

@@ -1,10 +1,12 @@
 #!/usr/bin/env python3
-"""Compares the three programs and the C entries with channel.py on cases drawn from a seed, and the router with a search on small channels.
+"""Compares the three programs and the C entries with channel.py on cases drawn from a seed, and the router with a
+search on small channels.
 
     python3 reference/compare.py [SEED]        runs the test of the comparison itself, then all parts
     python3 reference/compare.py --self-test   runs that test alone
 
-It needs the programs in target/bin and target/staticlib/libscreen_api.a. A difference is printed with the input that shows it, and the exit status is 1.
+It needs the programs in target/bin and target/staticlib/libscreen_api.a. A difference is printed with the input that
+shows it, and the exit status is 1.
 """
 import sys
 import time
@@ -18,9 +20,9 @@ import program_cases
 import self_test
 
 DEFAULT_SEED = "2026"
-WORKERS = 2
 PROGRAMS = ("listing", "board_writer", "board_judge")
-# The programs lend enough memory and have a blank for every channel, so 1 and 14 never show; None is a listing, a board or a good one.
+# The programs lend enough memory and have a blank for every channel, so 1 and 14 never show. None is an output other
+# than a refusal.
 PROGRAM_NUMBERS = {None, 0, *range(2, 14)}
 ENTRY_NUMBERS = set(range(15))
 
@@ -37,8 +39,8 @@ def shown(answer):
     """A line as it is; of a program's output the text, or the bytes in hexadecimal."""
     if isinstance(answer, str):
         return answer
-    text = answer.decode("latin-1")
-    return text.rstrip("\n") if all(c == "\n" or " " <= c <= "~" for c in text) else f"{len(answer)} bytes {answer.hex()}"
+    printable = all(byte == 10 or 32 <= byte < 127 for byte in answer)
+    return answer.decode("ascii").rstrip("\n") if printable else f"{len(answer)} bytes {answer.hex()}"
 
 
 def lacking(numbers, due):
@@ -49,11 +51,12 @@ def lacking(numbers, due):
 
 def counted(numbers):
     """How often each number was answered."""
-    return ", ".join(f"{'good' if n is None else n}: {numbers[n]}" for n in sorted(numbers, key=lambda n: -1 if n is None else n))
+    rising = sorted(numbers, key=lambda n: -1 if n is None else n)
+    return ", ".join(f"{'not refused' if n is None else n}: {numbers[n]}" for n in rising)
 
 
 def programs(seed):
-    with Pool(WORKERS) as pool:
+    with Pool(batch.WORKERS) as pool:
         parts = pool.map(program_cases.made_and_run, program_cases.jobs(seed), chunksize=1)
     cases = [case for made, _ in parts for case in made]
     difference = first_difference(cases, [written for _, outputs in parts for written in outputs])
@@ -64,7 +67,7 @@ def programs(seed):
 
 
 def entries(seed):
-    with Pool(WORKERS) as pool:
+    with Pool(batch.WORKERS) as pool:
         parts = pool.map(entry_cases.made, entry_cases.jobs(seed), chunksize=1)
     cases = [case for made, _ in parts for case in made]
     difference = first_difference(cases, batch.answers([case.question for case in cases]))
@@ -101,7 +104,8 @@ def main(arguments):
         return 0 if right else 1
     seed = arguments[0] if arguments else DEFAULT_SEED
     print(f"seed {seed}", flush=True)
-    results = [run("programs", programs, seed), run("entries", entries, seed), run("exhaustive", exhaustive.compare, seed, WORKERS)]
+    parts = (("programs", programs), ("entries", entries), ("exhaustive", exhaustive.compare))
+    results = [run(name, part, seed) for name, part in parts]
     return 0 if all(results) else 1
 
 

@@ -1,9 +1,11 @@
-"""Cases for the C entries, made in jobs that several processes can share. A job draws from its own generator, so a seed settles every case."""
+"""Cases for the C entries, made in jobs that several processes can share. A job draws from its own generator, so a seed
+settles every case."""
 import random
 from collections import Counter
 
 import batch
 import channel
+import piece_sets
 import random_boards
 import random_channels
 import random_texts
@@ -17,7 +19,9 @@ SMALL_CHANNELS = [([a, b], [c, d]) for a in range(3) for b in range(3) for c in 
 
 def lent(rng, needed):
     """A length that suffices, mostly just so; at times one that does not."""
-    return needed if rng.random() < 0.9 else rng.choice((0, 1, needed - 1, needed + 1, needed + 40, rng.randint(0, needed)))
+    if rng.random() < 0.9:
+        return needed
+    return rng.choice((0, 1, needed - 1, needed + 1, needed + 40, rng.randint(0, needed)))
 
 
 def text_job(rng):
@@ -36,7 +40,8 @@ def channel_job(rng):
         rows = random_channels.refused(rng)
         yield batch.route(*rows, rng.randrange(256), lent(rng, channel.RING), lent(rng, channel.BOARD))
         yield batch.bounds(*rows, rng.randrange(256))
-        yield batch.judge(*rows, channel.encode(max(1, len(rows[0])) % 1024, 0, []), rng.randrange(256), lent(rng, channel.SCRATCH))
+        bare = channel.encode(max(1, len(rows[0])), 0, [])
+        yield batch.judge(*rows, bare, rng.randrange(256), lent(rng, channel.SCRATCH))
 
 
 def damages(rng, rows, tracks, pieces, times):
@@ -92,7 +97,7 @@ def wide_job(rng):
 
 def small_board_job(_):
     """Every layout that has each piece at most once on 2 columns and 1 track, with every channel of 2 columns."""
-    pieces = [(0, 1, 1, 2)] + [(1, c, a, b) for c in (1, 2) for a in range(3) for b in range(a + 1, 3)] + [(2, 1, 1, 1), (2, 2, 1, 1)]
+    pieces = piece_sets.every_piece(2, 1)
     for subset in range(1 << len(pieces)):
         file = channel.encode(2, 1, [p for i, p in enumerate(pieces) if subset >> i & 1])
         for rows in SMALL_CHANNELS:
@@ -100,7 +105,8 @@ def small_board_job(_):
 
 
 def fixed_job(_):
-    """Blanks, the texts about the programs' limit, the channels of the gate, a hand-made split trunk, and each buffer too short before other refusals."""
+    """Blanks, texts about the programs' limit, the channels of the gate, the tallest board, a split trunk made by hand,
+    and each buffer too short where other refusals would follow."""
     for tracks in [*range(0, 600), 2**16, 2**31, 2**32 - 1]:
         yield batch.blank(tracks)
     for text in random_texts.long_texts():
@@ -123,7 +129,8 @@ def fixed_job(_):
             yield batch.judge([], [700], b"", fill, scratch)
 
 
-JOBS = ((fixed_job, 1), (small_board_job, 1), (wide_job, 12), (maze_job, 10), (own_board_job, 10), (channel_job, 10), (scatter_job, 6), (text_job, 12))
+JOBS = ((fixed_job, 1), (small_board_job, 1), (wide_job, 12), (maze_job, 10), (own_board_job, 10), (channel_job, 10),
+        (scatter_job, 6), (text_job, 12))
 
 
 def jobs(seed):
@@ -135,7 +142,8 @@ def made(job):
     """The cases of a job, and how many of its good boards have nets with several trunks or tangled channels."""
     seed, name, part = job
     cases = list(globals()[name](random.Random(f"{seed} {name} {part}")))
-    return cases, Counter(feature for case in cases if case.kind() == batch.JUDGE and case.number() == 0 for feature in features(case))
+    good = [case for case in cases if case.kind() == batch.JUDGE and case.number() == 0]
+    return cases, Counter(feature for case in good for feature in features(case))
 
 
 def features(case):

@@ -2,8 +2,8 @@
 
 Usage: python3 reference/exhaustive.py [SEED]
 
-The router is asked for every channel of up to 3 columns with nets 1 to 3, for every channel of 4 columns but for the names of
-its nets, and for some of 5. It has to refuse as tangled just those of which layout_search.py finds no layout.
+The router is asked for every channel of up to 3 columns with nets 1 to 3, for every channel of 4 columns but for the
+names of its nets, and for some of 5. It has to refuse as tangled just those of which layout_search.py finds no layout.
 """
 import itertools
 import random
@@ -21,7 +21,7 @@ SEARCH_GRIDS = ((1, 0), (1, 1), (1, 2), (1, 3), (2, 0), (2, 1), (2, 2), (3, 0), 
 FLOOR_GRIDS = ((1, 0), (2, 0), (3, 0), (4, 0), (4, 1), (5, 0), (5, 1))
 
 
-# --- channels -------------------------------------------------------------------------------------------------------------
+# --- channels -------------------------------------------------------------------------------------------------------
 
 def no_lone_pin(pins):
     return all(pins.count(net) > 1 for net in pins if net)
@@ -69,7 +69,7 @@ def asked(seed):
     return rows
 
 
-# --- the search against all sets of pieces --------------------------------------------------------------------------------
+# --- the search against all sets of pieces --------------------------------------------------------------------------
 
 def search_differences():
     """Whether the search finds a layout, against all sets of all pieces."""
@@ -94,7 +94,7 @@ def aside(name):
     return list({"search": search_differences, "floor": floor_differences}[name]())
 
 
-# --- the router -----------------------------------------------------------------------------------------------------------
+# --- the router -----------------------------------------------------------------------------------------------------
 
 def ring_right(top, bot, pairs):
     """Whether pairs of net and column are a ring: different nets, each above the next, and the last above the first."""
@@ -156,20 +156,20 @@ def told(difference):
     return "\n".join([fault, batch.joined("TOP", *top), batch.joined("BOT", *bot)])
 
 
-def compare(seed, workers=2):
+def compare(seed):
     """The first difference, or None; and what was compared, in words."""
     channels = asked(seed)
     different = sorted({shape_of(*rows) for rows in channels})
-    with Pool(workers) as pool:
+    with Pool(batch.WORKERS) as pool:
         others = [pool.apply_async(aside, (name,)) for name in ("search", "floor")]
         found = dict(zip(different, pool.map(fewest, different, chunksize=100)))
         differences = [d for other in others for d in other.get()]
     differences += router_differences(channels, found)
-    tangled = sum(found[shape_of(*rows)] is None for rows in channels)
+    tangled, loose = sum(found[shape_of(*rows)] is None for rows in channels), sum(free(*rows) for rows in channels)
     return told(differences[0]) if differences else None, (
-        f"{len(channels)} channels, {len(different)} but for the names of nets; {tangled} have no layout with one trunk a net"
-        f" and are refused, the others are routed well; {sum(free(*rows) for rows in channels)} have no column with two nets"
-        " and as many tracks as the density")
+        f"{len(channels)} channels, {len(different)} but for the names of nets; {tangled} have no layout with one trunk"
+        f" a net and are refused, the others are routed well; {loose} have no column with two nets and as many tracks"
+        " as the density")
 
 
 def main(arguments):

@@ -1,30 +1,31 @@
-"""Searches a small channel for a good layout with at most one trunk a net. The search knows pieces, touching and joining; it
-knows nothing of constraints, rings or a fill.
+"""Searches a small channel for a good layout with at most one trunk a net. The search knows pieces, touching and
+joining; it knows nothing of constraints, rings or a fill.
 
-Which layouts are searched. Take any good layout with at most one trunk a net, of a channel in which no net has just one pin.
-Each step below gives another such layout of the same channel, so if there is one at all, there is one among those searched.
+Which layouts are searched. Take any good layout with at most one trunk a net, of a channel in which no net has just
+one pin. Each step below gives another such layout of the same channel, so if there is one at all, there is one among
+those searched.
 
 1. Every piece belongs to one net, since it is joined to some pin, and to pins of one net only.
-2. Branches that share a point touch. One branch over all their points touches just what they touched, so each such heap can
-   be one branch: the branches of a column are disjoint.
-3. A contact where no trunk or no branch lies links only pieces that share its point and touch anyway; it can go, and so can
-   all but one of the contacts on a point. The others lie where the trunk and a branch of one net cross.
-4. A branch that covers no pin can go. It touches contacts alone, and these lie on its net's one trunk; that has one point in
-   the branch's column, so there is one such contact. Nothing is joined through what hangs on one contact.
-5. The trunk of a net whose pins all stand in one column can go. It has one point in that column, so copper of other columns
-   is joined to the pins through this point only. Pins joined to the trunk have branches over this point, which are one
-   branch by 2; so one branch covers both pins, and they need no trunk.
-6. A net with pins in several columns has its trunk, since only trunks lead to another column, and all its pins are joined to
-   it. A pin's branch is joined to the trunk in the pin's own column: the branch covers the trunk's track, and the trunk
-   covers the column. A contact is there, and may be, both being of one net.
-7. A track without a trunk can go. Trim each branch to its pin and its goal, which is the trunk's track, or the other edge for
-   a net of one column. Then no piece ends on that track; with the rows above it moved down by one, each piece is still a
-   piece and touches what it touched. So as many tracks as nets are enough.
+2. Branches that share a point touch. One branch over all their points touches just what they touched, so each such
+   heap can be one branch: the branches of a column are disjoint.
+3. A contact where no trunk or no branch lies links only pieces that share its point and touch anyway; it can go, and
+   so can all but one of the contacts on a point. The others lie where the trunk and a branch of one net cross.
+4. A branch that covers no pin can go. It touches contacts alone, and these lie on its net's one trunk; that has one
+   point in the branch's column, so there is one such contact. Nothing is joined through what hangs on one contact.
+5. The trunk of a net whose pins all stand in one column can go. It has one point in that column, so copper of other
+   columns is joined to the pins through this point only. Pins joined to the trunk have branches over this point,
+   which are one branch by 2; so one branch covers both pins, and they need no trunk.
+6. A net with pins in several columns has its trunk, since only trunks lead to another column, and all its pins are
+   joined to it. A pin's branch is joined to the trunk in the pin's own column: the branch covers the trunk's track,
+   and the trunk covers the column. A contact is there, and may be, both being of one net.
+7. A track without a trunk can go. Trim each branch to its pins and their goal, which is the trunk's track, or the
+   other edge for a net of one column. Then no piece ends on that track; with the rows above it moved down by one,
+   each piece is still a piece and touches what it touched. So as many tracks as nets are enough.
 
 What is searched is then: for each net with pins in several columns every trunk (its track and columns), no two trunks
-touching; and for each column every set of disjoint branches. A pin asks for a branch that covers it and its goal, and no
-branch may cover pins of two nets. Whoever uses a layout found here has it judged; that none is missed is tried again on the
-smallest grids in piece_sets.py.
+touching; and for each column every set of disjoint branches. A pin asks for a branch that covers it and its goal, and
+no branch may cover pins of two nets. Whoever uses a layout found here has it judged; that none is missed is tried
+again on the smallest grids in piece_sets.py.
 """
 import functools
 

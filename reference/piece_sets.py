@@ -1,4 +1,4 @@
-"""Tries every set of pieces on the smallest grids: which channels each is a good layout of, by the wiring rule alone."""
+"""Tries every set of pieces on the smallest grids: of which channels each is a good layout, by the wiring rule."""
 import itertools
 
 import channel
@@ -12,14 +12,14 @@ def every_piece(width, tracks):
 
 
 def shortest_pieces(width, tracks):
-    """Pieces of one step, and contacts. A trunk or branch is a row of such that touch, so where a net may have any number of
-    trunks these are enough."""
+    """Pieces of one step, and contacts. A trunk or branch is a row of such that touch, so where a net may have any
+    number of trunks these are enough."""
     return [p for p in every_piece(width, tracks) if p[0] == CONTACT or p[3] == p[2] + 1]
 
 
 def masks_of(width, tracks, pieces):
-    """The points of each piece as a number, one bit a point and layer, so that two touch if they share a bit; and whether it
-    is a trunk. The edge place of pin position p is bit p - 1."""
+    """The points of each piece as a number, one bit a point and layer, so that two touch if they share a bit; and
+    whether it is a trunk. The edge place of pin position p is bit p - 1."""
     bit = {}
     for position in range(2 * width):
         bit[1, position % width + 1, tracks + 1 if position < width else 0] = position
@@ -30,8 +30,8 @@ def masks_of(width, tracks, pieces):
 
 
 def reached(width, tracks, pieces):
-    """Of every set of the pieces: the edge places that each joined part reaches, and whether no part has two trunks. A part
-    with fewer than two edge places floats or leaves a pin alone, so its set is left out."""
+    """Of every set of the pieces: the edge places that each joined part reaches, and whether no part has two trunks.
+    A part with fewer than two edge places floats or leaves a pin alone, so its set is left out."""
     masks, edges, found = masks_of(width, tracks, pieces), (1 << 2 * width) - 1, set()
 
     def extend(number, parts):
@@ -61,8 +61,8 @@ def some_pins(places):
 
 
 def good_channels(width, tracks, pieces, one_trunk):
-    """The channels of which some set of the pieces is a good layout: each part of the set has the pins of one net. A channel
-    is shown as the set of its nets, each the bits of its pin positions."""
+    """The channels of which some set of the pieces is a good layout: each part of the set has the pins of one net. A
+    channel is shown as the set of its nets, each the bits of its pin positions."""
     good = set()
     for parts, single in reached(width, tracks, pieces):
         if single or not one_trunk:

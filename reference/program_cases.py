@@ -60,7 +60,8 @@ def both(texts):
 def text_job(rng):
     """Narrow channels, refused rows, and texts with slips."""
     for _ in range(45):
-        yield from both([random_texts.drawn(rng, *random_channels.escaping(rng)), text_cases.text(*random_channels.escaping(rng))])
+        yield from both([random_texts.drawn(rng, *random_channels.escaping(rng))])
+        yield from both([text_cases.text(*random_channels.escaping(rng))])
     for _ in range(15):
         yield from both([text_cases.text(*random_channels.refused(rng)), random_texts.noise(rng)])
 
@@ -78,7 +79,8 @@ def bench_job(_):
 def wide_job(rng):
     for _ in range(15):
         yield from both([text_cases.text(*random_channels.wide(rng))])
-    yield from both(text_cases.text(*rows) for rows in (row_cases.chained(511), row_cases.ring(255, 100), ([0] * 512, [0] * 512), ([0] * 513, [0] * 513)))
+    most = row_cases.chained(511), row_cases.ring(255, 100), ([0] * 512, [0] * 512), ([0] * 513, [0] * 513)
+    yield from both(text_cases.text(*rows) for rows in most)
 
 
 def long_job(_):
@@ -89,13 +91,15 @@ def long_job(_):
 
 
 def board_job(rng):
-    """Channels with their own boards, damaged ones, and boards of other channels; and tangled channels with split trunks."""
+    """Channels with their own boards, damaged ones and boards of others; and tangled channels with split trunks."""
     for i in range(30):
         rows = random_channels.wide(rng) if i % 12 == 0 else random_channels.escaping(rng)
         tracks, pieces = random_boards.routed(rng, rows)
-        text, file = text_cases.text(*rows), channel.encode(len(rows[0]), tracks, pieces)
+        text, width = text_cases.text(*rows), len(rows[0])
+        file = channel.encode(width, tracks, pieces)
+        slip = random_boards.damaged_pieces(rng, tracks, pieces, width)
         yield Case("board_judge", text, file)
-        yield Case("board_judge", text, channel.encode(len(rows[0]), tracks, random_boards.damaged_pieces(rng, tracks, pieces, len(rows[0]))))
+        yield Case("board_judge", text, channel.encode(width, tracks, slip))
         yield Case("board_judge", text, random_boards.damaged_file(rng, file))
         yield Case("board_judge", text_cases.text(*random_channels.escaping(rng)), file)
     for _ in range(15):
@@ -109,7 +113,8 @@ def file_job(rng):
     text = text_cases.GOOD
     file = channel.board(text)
     long = bytes(channel.LIMIT + 1)
-    for pins in (None, b"", text, b"TOP 01", text_cases.text([1, 1], [0]), text_cases.text([1], [0]), long, text + long):
+    uneven, lone = text_cases.text([1, 1], [0]), text_cases.text([1], [0])
+    for pins in (None, b"", text, b"TOP 01", uneven, lone, long, text + long):
         for board in (None, b"", file, file[:-1], long[:-1], long, file + long):
             yield Case("board_judge", pins, board)
     full = [(1, 1 + k % 4, 0, 3) for k in range(4095)]

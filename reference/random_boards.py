@@ -1,17 +1,15 @@
-"""Board files drawn by a seeded generator: layouts that a router would not draw, good ones among them, and damaged files.
-
-A layout is drawn first and its channel after it: pins are set where its copper reaches an edge. So nets with several trunks, split trunks, crossings,
-branches to edge places without pins and tangled channels with good layouts all come up.
-"""
+"""Board files drawn by a seeded generator: the router's own, good layouts that it would not draw, and damaged files."""
 import channel
 import random_channels
 import row_cases
 
 TRUNK, BRANCH, CONTACT = range(3)
-# A tangled channel with a good layout: net 1 goes from TOP 1 on track 3 to column 2, down to track 1, and on to BOT 3; net 2 is on track 2.
+# A tangled channel with a good layout: net 1 goes from TOP 1 on track 3 to column 2, down to track 1, and on to BOT 3;
+# net 2 is on track 2.
 SPLIT_ROWS = ([1, 0, 2], [2, 0, 1])
-SPLIT = [(TRUNK, 3, 1, 2), (TRUNK, 1, 2, 3), (TRUNK, 2, 1, 3), (BRANCH, 1, 3, 4), (CONTACT, 1, 3, 3), (BRANCH, 2, 1, 3), (CONTACT, 2, 3, 3),
-         (CONTACT, 2, 1, 1), (BRANCH, 3, 0, 1), (CONTACT, 3, 1, 1), (BRANCH, 1, 0, 2), (CONTACT, 1, 2, 2), (BRANCH, 3, 2, 4), (CONTACT, 3, 2, 2)]
+SPLIT = [(TRUNK, 3, 1, 2), (TRUNK, 1, 2, 3), (TRUNK, 2, 1, 3), (BRANCH, 1, 3, 4), (CONTACT, 1, 3, 3), (BRANCH, 2, 1, 3),
+         (CONTACT, 2, 3, 3), (CONTACT, 2, 1, 1), (BRANCH, 3, 0, 1), (CONTACT, 3, 1, 1), (BRANCH, 1, 0, 2),
+         (CONTACT, 1, 2, 2), (BRANCH, 3, 2, 4), (CONTACT, 3, 2, 2)]
 
 
 def piece(rng, width, tracks, longest):
@@ -60,12 +58,13 @@ def groups_of(pieces):
 
 def edges_of(group, tracks):
     """The edge places that a group's branches reach: (row of the channel, column); 0 is TOP."""
-    ends = [(0 if row else 1, line) for kind, line, a, b in group if kind == BRANCH for row in (a, b) if row in (0, tracks + 1)]
-    return sorted(set(ends))
+    ends = [(row, line) for kind, line, *ends in group if kind == BRANCH for row in ends]
+    return sorted({(0 if row else 1, line) for row, line in ends if row in (0, tracks + 1)})
 
 
 def scattered(rng, width, tracks, count, longest=4):
-    """A good layout of pieces drawn one by one, and a channel that it fits: rows, tracks and pieces."""
+    """A good layout of pieces drawn one by one, and then a channel that it fits, with pins at most edge places that its
+    copper reaches: rows, tracks and pieces."""
     drawn = [p for p in (piece(rng, width, tracks, longest) for _ in range(count)) if p]
     drawn += crossings(rng, drawn, rng.choice((0.1, 0.4, 0.8)))
     rows, kept, nets = ([0] * width, [0] * width), [], 0
@@ -78,11 +77,13 @@ def scattered(rng, width, tracks, count, longest=4):
             rows[row][column - 1] = nets
         kept += group
     rng.shuffle(kept)
-    return random_channels.renumbered(rng, *rows), tracks, kept + rng.sample(kept, min(len(kept), rng.choice((0, 0, 1, 3))))
+    repeated = rng.sample(kept, min(len(kept), rng.choice((0, 0, 1, 3))))
+    return random_channels.renumbered(rng, *rows), tracks, kept + repeated
 
 
 def beside(point, width, tracks):
-    """The points one step from a point: up and down on the branches' layer, left and right on the trunks', and through a contact."""
+    """The points one step from a point: up and down on the branches' layer, left and right on the trunks', and through
+    a contact."""
     layer, c, r = point
     steps = [(1, c, r - 1), (1, c, r + 1), (0, c, r)] if layer else [(0, c - 1, r), (0, c + 1, r), (1, c, r)]
     return [p for p in steps if 1 <= p[1] <= width and (1 <= p[2] <= tracks or p[0] == 1 and p[2] in (0, tracks + 1))]
@@ -136,8 +137,8 @@ def net_through(rng, places, taken, width, tracks):
 
 
 def mazed(rng, top, bot, tracks):
-    """A good layout with as many trunks a net as it takes, found net by net as through a maze, for tangled channels too. A net that finds no way
-    is left out: rows, tracks and pieces."""
+    """A good layout with as many trunks a net as it takes, found net by net as through a maze, for tangled channels
+    too. A net that finds no way is left out: rows, tracks and pieces."""
     width = len(top)
     pins = {(1, c, row): net for nets, row in ((top, tracks + 1), (bot, 0)) for c, net in enumerate(nets, 1) if net}
     order, points_of_net, pieces, left_out = sorted(set(pins.values())), {}, [], set()
@@ -227,7 +228,9 @@ def bits_flipped(rng, file):
 
 
 def torn(rng, file):
-    return rng.choice((file[:rng.randint(0, len(file))], file[:rng.randint(0, 4)], file + bytes(rng.randint(1, 8)), file[:-1], file + file[-4:], file + file[-1:]))
+    """A file that lacks bytes, or has some more."""
+    lacking = file[:rng.randint(0, len(file))], file[:rng.randint(0, 4)], file[:-1]
+    return rng.choice((*lacking, file + bytes(rng.randint(1, 8)), file + file[-4:], file + file[-1:]))
 
 
 def damaged_file(rng, file):

@@ -12,21 +12,24 @@ def replaced(rng, text, old, new):
     return text[:at] + new + text[at + len(old):]
 
 
-# What stands in a pin list, and what a hand or another system may write in its place.
-SLIPS = [
-    (b"TOP", b"top"), (b"TOP", b"Top"), (b"TOP", b"TO"), (b"TOP", b"TOPP"), (b"TOP", b""), (b"TOP", b"BOT"), (b"TOP", b" TOP"), (b"TOP", b"\xef\xbb\xbfTOP"),
-    (b"BOT", b"bot"), (b"BOT", b"BO"), (b"BOT", b"BOTT"), (b"BOT", b""), (b"BOT", b"TOP"), (b"BOT", b" BOT"), (b"BOT", b"\nBOT"), (b"BOT", b"LEFT"),
-    (b" ", b"  "), (b" ", b"\t"), (b" ", b""), (b" ", b","), (b" ", b", "), (b" ", b"\n"), (b" ", b"\xc2\xa0"), (b" ", b" 0"), (b" ", b" 00"), (b" ", b" -"),
-    (b" ", b" +"), (b" ", b" 0x"), (b" ", b" 1."), (b" ", b" \x00"), (b" ", b" a"), (b" ", b" /"), (b" ", b" :"), (b" ", b" 1/"), (b" ", b" 1:"),
-    (b"\n", b"\r\n"), (b"\n", b" \n"), (b"\n", b""), (b"\n", b"\n\n"), (b"\n", b"\r"), (b"\n", b" "), (b"\n", b"\x00\n"), (b"\n", b"\x0b"), (b"\n", b"0\n"),
-]
+# What a hand or another system may write in place of each part of a pin list.
+SLIPS = {
+    b"TOP": (b"top", b"Top", b"TO", b"TOPP", b"", b"BOT", b" TOP", b"\xef\xbb\xbfTOP"),
+    b"BOT": (b"bot", b"BO", b"BOTT", b"", b"TOP", b" BOT", b"\nBOT", b"LEFT"),
+    b" ": (b"  ", b"\t", b"", b",", b", ", b"\n", b"\xc2\xa0", b" 0", b" 00", b" -", b" +", b" 0x", b" 1.", b" \x00",
+           b" a", b" /", b" :", b" 1/", b" 1:"),
+    b"\n": (b"\r\n", b" \n", b"", b"\n\n", b"\r", b" ", b"\x00\n", b"\x0b", b"0\n"),
+}
 TAILS = [b"\n", b" ", b"0", b" 0", b"\x00", b"TOP", b"BOT 0\n", b"\x1a", b"\xff", b"x"]
 
 
 def byte_changed(rng, text):
+    """A text cut at a byte, or with a byte left out, put in, put in its place, or with a bit flipped."""
     at = rng.randrange(len(text))
-    return rng.choice((text[:at], text[:at] + text[at + 1:], text[:at] + bytes([rng.randrange(256)]) + text[at:],
-                       text[:at] + bytes([rng.randrange(256)]) + text[at + 1:], text[:at] + bytes([text[at] ^ 1 << rng.randrange(8)]) + text[at + 1:]))
+    before, after = text[:at], text[at + 1:]
+    byte, flipped = bytes([rng.randrange(256)]), bytes([text[at] ^ 1 << rng.randrange(8)])
+    middle = rng.choice((b"", byte + text[at:at + 1], byte, flipped))
+    return before if rng.random() < 0.2 else before + middle + after
 
 
 def number_grown(rng, text):
@@ -39,14 +42,16 @@ def number_grown(rng, text):
 def lines_changed(rng, text):
     top, bot = text.splitlines(keepends=True)[:2]
     words = rng.choice((b"TOP", b"BOT", b"TOP ", b"BOT ", b""))
-    return rng.choice((bot + top, top, bot, top + top, top + bot + bot, top[:-1] + bot, words + b"\n" + bot, top + words + b"\n", text[::-1], b"\n" + text, b""))
+    return rng.choice((bot + top, top, bot, top + top, top + bot + bot, top[:-1] + bot, words + b"\n" + bot,
+                       top + words + b"\n", text[::-1], b"\n" + text, b""))
 
 
 def damaged(rng, text):
     """A pin list with one slip."""
     kind = rng.randrange(8)
     if kind < 4:
-        return replaced(rng, text, *rng.choice(SLIPS))
+        part = rng.choice(list(SLIPS))
+        return replaced(rng, text, part, rng.choice(SLIPS[part]))
     if kind == 4:
         return text + rng.choice(TAILS)
     return (byte_changed, number_grown, lines_changed)[kind - 5](rng, text)
@@ -68,7 +73,7 @@ def drawn(rng, top, bot):
 
 
 def long_texts():
-    """Texts whose lengths lie around the limit of the programs: of the form, or garbled at the front, in the middle or at the end."""
+    """Texts whose lengths lie around the limit of the programs: of the form, or garbled at the front or at the end."""
     for length in range(channel.LIMIT - 2, channel.LIMIT + 3):
         yield b"TOP 1\nBOT " + b"7" * (length - 11) + b"\n"  # a net of many digits
         yield b"TOP 1\nBOT " + b"7" * (length - 10)  # the same, cut

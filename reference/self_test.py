@@ -25,15 +25,16 @@ def wrong_dues(cases, answers, first_difference):
 
 
 def program_faults(first_difference):
-    cases = [program_cases.Case("listing", text_cases.GOOD), program_cases.Case("board_writer", text_cases.GOOD),
-             program_cases.Case("board_judge", text_cases.GOOD, FILE), program_cases.Case("board_judge", text_cases.GOOD, None)]
+    inputs = (("listing",), ("board_writer",), ("board_judge", FILE), ("board_judge", None))
+    cases = [program_cases.Case(program, text_cases.GOOD, *board) for program, *board in inputs]
     if PINS not in cases[0].shown() or FILE.hex() not in cases[2].shown():
         yield "a program's input is not shown"
     yield from wrong_dues(cases, [case.run() for case in cases], first_difference)
 
 
 def entry_questions():
-    return [batch.read(text_cases.GOOD), batch.bounds(*ROWS), batch.route(*ROWS), batch.judge(*ROWS, FILE), batch.blank(9), batch.route([1, 2], [2, 1])]
+    return [batch.read(text_cases.GOOD), batch.bounds(*ROWS), batch.route(*ROWS), batch.judge(*ROWS, FILE),
+            batch.blank(9), batch.route([1, 2], [2, 1])]
 
 
 def entry_faults(first_difference):
@@ -50,8 +51,9 @@ def buffer_faults():
     """Entries that write beside what they may."""
     program = batch.PROGRAM.with_name("batch_wrong")
     batch.build(batch.ROOT / "reference" / "wrong_entries.c", program)
-    due = ["0 1 top 0 kept bot 0 changed 2048 inputs kept", "0 0 inputs changed", "7 1 ring 1 2 changed 8 board changed -1 inputs kept",
-           "0 2 scratch changed 40952 inputs kept", "14 9 inputs kept"]
+    due = ["0 1 top 0 kept bot 0 changed 2048 inputs kept", "0 0 inputs changed",
+           "7 1 ring 1 2 changed 8 board changed -1 inputs kept", "0 2 scratch changed 40952 inputs kept",
+           "14 9 inputs kept"]
     for line, wanted in zip(batch.answers([case.question for case in entry_questions()[:5]], program), due):
         if line != wanted:
             yield f"a spoilt byte is told as '{line}', due '{wanted}'"
@@ -70,8 +72,10 @@ def search_faults():
             if not any(batch.joined("TOP", *top) in text and batch.joined("BOT", *bot) in text for text in told):
                 yield f"a wrong search is not found: {top} {bot} {wrong}"
     cut = channel.encode(4, 2, channel.open_board(FILE)[2][:-1])
-    if exhaustive.ring_right([1, 2], [2, 1], [(1, 1), (2, 1)]) or exhaustive.board_fault(ROWS, FILE, 2) or not exhaustive.board_fault(ROWS, cut, 2):
-        yield "a wrong ring or board is not found"
+    if exhaustive.ring_right([1, 2], [2, 1], [(1, 1), (2, 1)]):
+        yield "a wrong ring is not found"
+    if exhaustive.board_fault(ROWS, FILE, 2) or not exhaustive.board_fault(ROWS, cut, 2):
+        yield "a wrong board is not found, or a right one called wrong"
 
 
 def compare(first_difference, lacking):
@@ -79,4 +83,5 @@ def compare(first_difference, lacking):
     faults = [*program_faults(first_difference), *entry_faults(first_difference), *buffer_faults(), *search_faults()]
     if lacking({1, 2}, {1, 2, 3}) is None or lacking({1, 2}, {1, 2}):
         faults.append("a number that is never answered is not told")
-    return faults[0] if faults else None, "wrong answers of programs and entries, spoilt buffers and a wrong search are found and shown"
+    return faults[0] if faults else None, (
+        "wrong answers of programs and entries, spoilt buffers and a wrong search are found and shown")

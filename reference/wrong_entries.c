@@ -1,5 +1,5 @@
-/* Entries that answer and write just beside what they may: the batch program has to tell each such byte. The test of the comparison links them in
- * place of the proved ones. */
+/* Entries that write just beside what they may: the batch program has to tell each such byte. The test of the
+ * comparison links them in place of the proved ones. */
 #include <stddef.h>
 
 #include "channel.h"
