@@ -13,6 +13,8 @@ import time
 from collections import Counter
 from multiprocessing import Pool
 
+sys.dont_write_bytecode = True  # the modules below leave nothing beside them
+
 import batch
 import entry_cases
 import exhaustive

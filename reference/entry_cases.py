@@ -109,7 +109,7 @@ def fixed_job(_):
     and each buffer too short where other refusals would follow."""
     for tracks in [*range(0, 600), 2**16, 2**31, 2**32 - 1]:
         yield batch.blank(tracks)
-    for text in random_texts.long_texts():
+    for text in list(random_texts.long_texts())[::2]:
         yield batch.read(text, 1)
     for rows in row_cases.channels():
         yield batch.route(*rows)
@@ -129,7 +129,7 @@ def fixed_job(_):
             yield batch.judge([], [700], b"", fill, scratch)
 
 
-JOBS = ((fixed_job, 1), (small_board_job, 1), (wide_job, 12), (maze_job, 10), (own_board_job, 10), (channel_job, 10),
+JOBS = ((fixed_job, 1), (small_board_job, 1), (wide_job, 10), (maze_job, 8), (own_board_job, 8), (channel_job, 10),
         (scatter_job, 6), (text_job, 12))
 
 

@@ -10,6 +10,8 @@ import random
 import sys
 from multiprocessing import Pool
 
+sys.dont_write_bytecode = True  # the modules below leave nothing beside them
+
 import batch
 import channel
 import random_boards
