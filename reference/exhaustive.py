@@ -7,6 +7,7 @@ names of its nets, and for some of 5. It has to refuse as tangled just those of 
 """
 import itertools
 import random
+import re
 import sys
 from multiprocessing import Pool
 
@@ -21,6 +22,7 @@ from piece_sets import every_piece, good_channels, nets_of, rows_of, shortest_pi
 
 SEARCH_GRIDS = ((1, 0), (1, 1), (1, 2), (1, 3), (2, 0), (2, 1), (2, 2), (3, 0), (3, 1))  # columns, tracks
 FLOOR_GRIDS = ((1, 0), (2, 0), (3, 0), (4, 0), (4, 1), (5, 0), (5, 1))
+ROUTED = re.compile(r"(\d+) (\d+) ring((?: \d+)*) kept board((?: [0-9a-f]+)?) kept inputs kept")
 
 
 # --- channels -------------------------------------------------------------------------------------------------------
@@ -108,15 +110,17 @@ def ring_right(top, bot, pairs):
 
 def router_fault(rows, line, found):
     """What is wrong with the router's answer to rows for which the search found this, or None."""
-    number, value = map(int, line.split()[:2])
+    answer = ROUTED.fullmatch(line)
+    if not answer:
+        return f"the router's answer is '{line}'"
+    number, value, ring = int(answer[1]), int(answer[2]), list(map(int, answer[3].split()))
     if number not in (0, 7) or (number == 7) != (found is None):
         layouts = "no layout" if found is None else f"a layout of {found[0]} tracks"
         return f"the router answers {number} {value}, and the search finds {layouts}"
     if number == 7:
-        ring = list(map(int, line.split(" ring ")[1].split(" kept")[0].split()))
         right = len(ring) == 2 * value and ring_right(*rows, list(zip(ring[::2], ring[1::2])))
         return None if right else f"{ring} is no ring of {value} nets"
-    return board_fault(rows, bytes.fromhex(line.split(" board ")[1].split()[0]), found[0])
+    return board_fault(rows, bytes.fromhex(answer[4]), found[0])
 
 
 def board_fault(rows, file, least):

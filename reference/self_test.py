@@ -71,6 +71,8 @@ def search_faults():
             told = [exhaustive.told(d) for d in exhaustive.router_differences(rows, {**found, shape: wrong})]
             if not any(batch.joined("TOP", *top) in text and batch.joined("BOT", *bot) in text for text in told):
                 yield f"a wrong search is not found: {top} {bot} {wrong}"
+    if not exhaustive.router_fault(([1, 2], [2, 1]), "7 1 ring 1 2 changed 8 board kept inputs kept", None):
+        yield "a spoilt ring is not found"
     cut = channel.encode(4, 2, channel.open_board(FILE)[2][:-1])
     if exhaustive.ring_right([1, 2], [2, 1], [(1, 1), (2, 1)]):
         yield "a wrong ring is not found"
