@@ -1,0 +1,225 @@
+/* Answers a batch of questions through the entries of channel.h, one line each, with what the lent buffers then hold.
+ *
+ * Usage: batch < questions > lines. A question is, its numbers most significant byte first:
+ *
+ *     kind      1 byte: 0 read, 1 bounds, 2 route, 3 judge, 4 blank
+ *     fill      1 byte: what the lent buffers hold before; if it is odd, a buffer of length 0 is lent as NULL
+ *     lent      2 numbers of 4 bytes: the lengths of the buffers that the entry writes (read: TOP, BOT; route: ring,
+ *               board; judge: scratch, and one that is not used; blank: its tracks, and one that is not used)
+ *     lengths   3 numbers of 4 bytes: of TOP, of BOT, of the text or board file
+ *     data      the numbers of TOP and BOT, 4 bytes each, then the text or board file
+ *
+ * A line is the number and value of the answer, then for each buffer that the entry writes: its name; its front, whose
+ * length the answer tells; and `kept`, or `changed` with the offset of the first byte that changed outside the front,
+ * guards before and after the buffer included. Scratch may hold anything, so only its guards are looked at. Last comes
+ * whether the inputs were kept. */
+#include <stdio.h>
+#include <stdlib.h>
+#include <string.h>
+
+#include "channel.h"
+
+enum { READ, BOUNDS, ROUTE, JUDGE, BLANK };
+enum { LENT = 2, LENGTHS = 3, HEADER = 2 + 4 * (LENT + LENGTHS), GUARD = 64, LONGEST = 1 << 20 };
+
+struct question {
+    uint8_t kind, fill;
+    uint32_t lent[LENT];
+    size_t top_length, bot_length, bytes_length;
+    const uint32_t *top, *bot;
+    const uint8_t *bytes;
+};
+
+/* A lent buffer: so many elements of so many bytes, between two guards. */
+struct buffer {
+    const char *name;
+    size_t size, length;
+    uint8_t fill, *memory;
+};
+
+static void fail(const char *what)
+{
+    fprintf(stderr, "batch: %s\n", what);
+    exit(2);
+}
+
+static void *room(size_t bytes)
+{
+    void *memory = malloc(bytes + 1);
+    if (!memory)
+        fail("no memory");
+    return memory;
+}
+
+static uint32_t number_at(const uint8_t *bytes)
+{
+    return (uint32_t)bytes[0] << 24 | (uint32_t)bytes[1] << 16 | (uint32_t)bytes[2] << 8 | bytes[3];
+}
+
+/* The byte that a buffer holds before the call; neighbours differ, and so do neighbouring runs of 256. */
+static uint8_t filler(uint8_t fill, size_t i) { return (uint8_t)(fill + 167 * i + 59 * (i >> 8)); }
+
+static struct buffer lend(const char *name, size_t size, size_t length, uint8_t fill)
+{
+    if (length > LONGEST)
+        fail("a length is over 1048576");
+    size_t bytes = size * length + 2 * GUARD;
+    struct buffer b = {name, size, length, fill, room(bytes)};
+    for (size_t i = 0; i < bytes; i++)
+        b.memory[i] = filler(fill, i);
+    return b;
+}
+
+static void *start_of(const struct buffer *b) { return b->length == 0 && b->fill % 2 ? NULL : b->memory + GUARD; }
+
+static void put_numbers(const struct buffer *b, size_t front)
+{
+    const uint32_t *numbers = (const uint32_t *)(b->memory + GUARD);
+    for (size_t i = 0; i < front && i < b->length; i++)
+        printf(" %u", numbers[i]);
+}
+
+static void put_bytes(const struct buffer *b, size_t front)
+{
+    if (front)
+        putchar(' ');
+    for (size_t i = 0; i < front && i < b->length; i++)
+        printf("%02x", b->memory[GUARD + i]);
+}
+
+static void put_kept(const struct buffer *b, size_t front)
+{
+    size_t bytes = b->size * b->length + 2 * GUARD, end = GUARD + b->size * (front < b->length ? front : b->length);
+    for (size_t i = 0; i < bytes; i++)
+        if ((i < GUARD || i >= end) && b->memory[i] != filler(b->fill, i)) {
+            printf(" changed %ld", (long)i - GUARD);
+            return;
+        }
+    fputs(" kept", stdout);
+}
+
+static void put_answer(uint64_t answer) { printf("%u %u", cabjirt_number(answer), cabjirt_value(answer)); }
+
+/* A buffer's part of the line; the buffer goes back. */
+static void give_back(struct buffer b, size_t front)
+{
+    printf(" %s", b.name);
+    if (b.size == sizeof(uint32_t))
+        put_numbers(&b, front);
+    else
+        put_bytes(&b, front);
+    put_kept(&b, front);
+    free(b.memory);
+}
+
+static void ask_read(const struct question *q)
+{
+    struct buffer top = lend("top", sizeof(uint32_t), q->lent[0], q->fill);
+    struct buffer bot = lend("bot", sizeof(uint32_t), q->lent[1], q->fill ^ 2);
+    uint64_t answer = cabjirt_read(q->bytes, q->bytes_length, start_of(&top), top.length, start_of(&bot), bot.length);
+    size_t width = cabjirt_number(answer) == 0 ? cabjirt_value(answer) : 0;
+    put_answer(answer);
+    give_back(top, width);
+    give_back(bot, width);
+}
+
+static void ask_route(const struct question *q)
+{
+    struct buffer ring = lend("ring", sizeof(uint32_t), q->lent[0], q->fill);
+    struct buffer board = lend("board", sizeof(uint8_t), q->lent[1], q->fill ^ 2);
+    uint64_t answer = cabjirt_route(q->top, q->top_length, q->bot, q->bot_length, start_of(&ring), ring.length,
+                                    start_of(&board), board.length);
+    uint32_t number = cabjirt_number(answer), value = cabjirt_value(answer);
+    put_answer(answer);
+    give_back(ring, number == 7 ? 2 * (size_t)value : 0);
+    give_back(board, number == 0 ? 4 + 4 * (size_t)(value >> 16) : 0);
+}
+
+static void ask_judge(const struct question *q)
+{
+    struct buffer scratch = lend("scratch", sizeof(uint32_t), q->lent[0], q->fill);
+    put_answer(cabjirt_judge(q->top, q->top_length, q->bot, q->bot_length, q->bytes, q->bytes_length,
+                             start_of(&scratch), scratch.length));
+    printf(" %s", scratch.name);
+    put_kept(&scratch, scratch.length);
+    free(scratch.memory);
+}
+
+static void ask(const struct question *q)
+{
+    switch (q->kind) {
+    case READ:
+        ask_read(q);
+        break;
+    case BOUNDS:
+        put_answer(cabjirt_bounds(q->top, q->top_length, q->bot, q->bot_length));
+        break;
+    case ROUTE:
+        ask_route(q);
+        break;
+    case JUDGE:
+        ask_judge(q);
+        break;
+    case BLANK:
+        put_answer(cabjirt_blank(q->lent[0]));
+        break;
+    default:
+        fail("a question is of no kind");
+    }
+}
+
+/* Reads a question's data into memory of just its length: the numbers in the order of this machine, then the bytes. */
+static uint8_t *data_of(size_t numbers, size_t bytes)
+{
+    size_t length = 4 * numbers + bytes;
+    uint8_t *data = room(length);
+    if (fread(data, 1, length, stdin) != length)
+        fail("a question is cut");
+    for (size_t i = 0; i < numbers; i++) {
+        uint32_t number = number_at(data + 4 * i);
+        memcpy(data + 4 * i, &number, sizeof number);
+    }
+    return data;
+}
+
+/* A pointer to so many elements, or NULL as the fill says. */
+static const void *given(const uint8_t *start, size_t length, uint8_t fill)
+{
+    return length == 0 && fill % 2 ? NULL : start;
+}
+
+static void answer(const uint8_t *header)
+{
+    uint32_t numbers[LENT + LENGTHS];
+    for (size_t i = 0; i < LENT + LENGTHS; i++)
+        numbers[i] = number_at(header + 2 + 4 * i);
+    struct question q = {.kind = header[0], .fill = header[1], .top_length = numbers[LENT],
+                         .bot_length = numbers[LENT + 1], .bytes_length = numbers[LENT + 2]};
+    if (q.top_length > LONGEST || q.bot_length > LONGEST || q.bytes_length > LONGEST)
+        fail("a length is over 1048576");
+    memcpy(q.lent, numbers, sizeof q.lent);
+    size_t rows = q.top_length + q.bot_length, length = 4 * rows + q.bytes_length;
+    uint8_t *data = data_of(rows, q.bytes_length), *before = room(length);
+    memcpy(before, data, length);
+    q.top = given(data, q.top_length, q.fill);
+    q.bot = given(data + 4 * q.top_length, q.bot_length, q.fill);
+    q.bytes = given(data + 4 * rows, q.bytes_length, q.fill);
+    ask(&q);
+    puts(memcmp(data, before, length) == 0 ? " inputs kept" : " inputs changed");
+    free(data);
+    free(before);
+}
+
+int main(void)
+{
+    uint8_t header[HEADER];
+    size_t got;
+    setvbuf(stdout, NULL, _IOLBF, 1 << 16); /* if an entry ends the program, the lines before it are out */
+    while ((got = fread(header, 1, HEADER, stdin)) == HEADER)
+        answer(header);
+    if (got)
+        fail("a question is cut");
+    if (fflush(stdout) || ferror(stdout))
+        fail("the lines could not be written");
+    return 0;
+}

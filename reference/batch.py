@@ -1,0 +1,135 @@
+"""Questions to the C entries, for batch.c: how they are packed, and the line that is due by channel.py."""
+import struct
+import subprocess
+import sys
+from pathlib import Path
+
+import channel
+
+ROOT = Path(__file__).resolve().parent.parent
+PROGRAM = ROOT / "target" / "batch"
+LIBRARY = ROOT / "target" / "staticlib" / "libscreen_api.a"
+READ, BOUNDS, ROUTE, JUDGE, BLANK = range(5)
+NAMES = ("read", "bounds", "route", "judge", "blank")
+WORKERS = 2  # processes that make cases
+HEADER = struct.Struct(">BB5I")
+
+
+class Case:
+    """A question, packed, and the line due."""
+
+    __slots__ = ("question", "due")
+
+    def __init__(self, kind, due, fill=0, lent=(0, 0), top=(), bot=(), data=b""):
+        head = HEADER.pack(kind, fill, *lent, len(top), len(bot), len(data))
+        self.question = head + struct.pack(f">{len(top) + len(bot)}I", *top, *bot) + data
+        self.due = due
+
+    def number(self):
+        """The number of the answer due: 0 or that of a refusal or fault."""
+        return int(self.due.split(" ", 1)[0])
+
+    def kind(self):
+        return self.question[0]
+
+    def inputs(self):
+        """The rows, and the text or board file."""
+        *_, top, bot, count = HEADER.unpack_from(self.question)
+        numbers = list(struct.unpack_from(f">{top + bot}I", self.question, HEADER.size))
+        return (numbers[:top], numbers[top:]), self.question[len(self.question) - count:]
+
+    def shown(self):
+        """The question for people: what is asked, the rows as a pin list, the bytes in hexadecimal."""
+        kind, fill, first, second = HEADER.unpack_from(self.question)[:4]
+        (top, bot), data = self.inputs()
+        lines = [f"{NAMES[kind]}, lent {first} and {second}, fill {fill}"]
+        if kind in (BOUNDS, ROUTE, JUDGE):
+            lines += [joined("TOP", listed(top)), joined("BOT", listed(bot))]
+        if kind in (READ, JUDGE):
+            lines.append(f"{len(data)} bytes {data.hex()}")
+        return "\n".join(lines)
+
+
+def joined(*parts):
+    return " ".join(str(part) for part in parts if part != "")
+
+
+def listed(numbers):
+    return " ".join(map(str, numbers))
+
+
+def read(text, fill=0, top=channel.ROW, bot=channel.ROW):
+    """The case of a text, read into rows lent with so many numbers."""
+    try:
+        if min(top, bot) < channel.ROW:
+            raise channel.Refused(1, channel.ROW)
+        rows = channel.parse(text)
+        channel.check(*rows)
+        answer = (0, len(rows[0]))
+    except channel.Refused as refusal:
+        answer, rows = (refusal.number, refusal.place), ((), ())
+    due = joined(*answer, "top", listed(rows[0]), "kept bot", listed(rows[1]), "kept inputs kept")
+    return Case(READ, due, fill, (top, bot), data=text)
+
+
+def bounds(top, bot, fill=0):
+    try:
+        density, chain = channel.bounds(top, bot)
+        answer = (0, density * 65536 + chain)
+    except channel.Refused as refusal:
+        answer = (refusal.number, refusal.place)
+    return Case(BOUNDS, joined(*answer, "inputs kept"), fill, top=top, bot=bot)
+
+
+def route(top, bot, fill=0, ring=channel.RING, board=channel.BOARD):
+    pairs, file = (), b""
+    try:
+        tracks, _, pieces = channel.route(top, bot, ring, board)
+        answer, file = (0, len(pieces) * 65536 + tracks), channel.encode(len(top), tracks, pieces)
+    except channel.Refused as refusal:
+        answer, pairs = (refusal.number, refusal.place), [n for pair in refusal.ring for n in pair]
+    due = joined(*answer, "ring", listed(pairs), "kept board", file.hex(), "kept inputs kept")
+    return Case(ROUTE, due, fill, (ring, board), top, bot)
+
+
+def judge(top, bot, file, fill=0, scratch=channel.SCRATCH):
+    try:
+        answer = (0, channel.judge(top, bot, file, scratch))
+    except channel.Refused as refusal:
+        answer = (refusal.number, refusal.place)
+    return Case(JUDGE, joined(*answer, "scratch kept inputs kept"), fill, (scratch, 0), top, bot, file)
+
+
+def blank(tracks):
+    try:
+        answer = (0, channel.blank(tracks))
+    except channel.Refused as refusal:
+        answer = (refusal.number, refusal.place)
+    return Case(BLANK, joined(*answer, "inputs kept"), lent=(tracks, 0))
+
+
+def need(path):
+    """Ends with one line if a file is not there."""
+    if not path.exists():
+        print(f"compare: {path} is not there; ./test builds it", file=sys.stderr)
+        sys.exit(2)
+
+
+def build(entries=LIBRARY, program=PROGRAM):
+    """Compiles batch.c with the entries."""
+    need(entries)
+    source, header = ROOT / "reference" / "batch.c", ROOT / "screen"
+    command = ["cc", "-std=c11", "-O2", "-Wall", "-Wextra", "-Werror", "-I", header, source, entries, "-o", program]
+    try:
+        subprocess.run(list(map(str, command)), check=True)
+    except (OSError, subprocess.CalledProcessError) as failure:
+        print(f"compare: {source} could not be compiled: {failure}", file=sys.stderr)
+        sys.exit(2)
+
+
+def answers(questions, program=PROGRAM):
+    """The line of each question, of one run of the batch program. If it ends too soon, the lines that lack say so."""
+    run = subprocess.run([str(program)], input=b"".join(questions), capture_output=True, check=False)
+    lines = run.stdout.decode("ascii").splitlines()
+    ended = joined("no answer, ended with status", run.returncode, run.stderr.decode("ascii", "replace").strip())
+    return lines + [ended] * (len(questions) - len(lines))

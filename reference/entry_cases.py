@@ -1,0 +1,162 @@
+"""Cases for the C entries, made in jobs that several processes can share. A job draws from its own generator, so a seed
+settles every case."""
+import random
+from collections import Counter
+
+import batch
+import channel
+import piece_sets
+import random_boards
+import random_channels
+import random_texts
+import row_cases
+import text_cases
+
+FEATURES = ("several trunks a net", "a tangled channel", "copper at an edge place without a pin")
+SMALL_CHANNELS = [([a, b], [c, d]) for a in range(3) for b in range(3) for c in range(3) for d in range(3)
+                  if all((a, b, c, d).count(net) != 1 for net in (1, 2))]
+
+
+def lent(rng, needed):
+    """A length that suffices, mostly just so; at times one that does not."""
+    if rng.random() < 0.9:
+        return needed
+    return rng.choice((0, 1, needed - 1, needed + 1, needed + 40, rng.randint(0, needed)))
+
+
+def text_job(rng):
+    for _ in range(300):
+        text = random_texts.drawn(rng, *random_channels.escaping(rng))
+        yield batch.read(text, rng.randrange(256), lent(rng, channel.ROW), lent(rng, channel.ROW))
+        yield batch.read(random_texts.noise(rng), rng.randrange(256))
+        yield batch.read(text_cases.text(*random_channels.refused(rng)), rng.randrange(256))
+
+
+def channel_job(rng):
+    for _ in range(300):
+        rows = random_channels.escaping(rng)
+        yield batch.route(*rows, rng.randrange(256), lent(rng, channel.RING), lent(rng, channel.BOARD))
+        yield batch.bounds(*rows, rng.randrange(256))
+        rows = random_channels.refused(rng)
+        yield batch.route(*rows, rng.randrange(256), lent(rng, channel.RING), lent(rng, channel.BOARD))
+        yield batch.bounds(*rows, rng.randrange(256))
+        bare = channel.encode(max(1, len(rows[0])), 0, [])
+        yield batch.judge(*rows, bare, rng.randrange(256), lent(rng, channel.SCRATCH))
+
+
+def damages(rng, rows, tracks, pieces, times):
+    """A board as it is, and damaged in its pieces and in its bytes."""
+    width = len(rows[0])
+    file = channel.encode(width, tracks, pieces)
+    yield batch.judge(*rows, file, rng.randrange(256), lent(rng, channel.SCRATCH))
+    for _ in range(times):
+        slip = random_boards.damaged_pieces(rng, tracks, pieces, width)
+        yield batch.judge(*rows, channel.encode(width, tracks, slip), rng.randrange(256))
+        yield batch.judge(*rows, random_boards.damaged_file(rng, file), rng.randrange(256))
+
+
+def own_board_job(rng):
+    """The router's own boards; the rows may be another channel's, of the same width or not."""
+    for _ in range(150):
+        rows = random_channels.escaping(rng)
+        tracks, pieces = random_boards.routed(rng, rows)
+        yield from damages(rng, rows, tracks, pieces, 3)
+        other = random_channels.escaping(rng)
+        yield batch.judge(*other, channel.encode(len(rows[0]), tracks, pieces), rng.randrange(256))
+
+
+def maze_job(rng):
+    """Good layouts with split trunks, a good part of them of tangled channels."""
+    for _ in range(100):
+        rows = random_channels.narrow(rng, 6) if rng.random() < 0.4 else random_channels.tangled(rng, 3)
+        rows = random_boards.spaced(rng, *random_channels.renumbered(rng, *rows), 0.5)
+        tracks = rng.randint(0, 3) + len(set(rows[0] + rows[1]))
+        yield from damages(rng, *random_boards.mazed(rng, *rows, tracks), 3)
+
+
+def scatter_job(rng):
+    for _ in range(150):
+        width = rng.randint(1, 9)
+        yield from damages(rng, *random_boards.scattered(rng, width, rng.randint(0, 6), rng.randint(2, 5 * width)), 2)
+
+
+def wide_job(rng):
+    """Channels of up to 512 columns, and boards of up to 4,095 pieces."""
+    for _ in range(4):
+        rows = random_channels.wide(rng)
+        yield batch.route(*rows, rng.randrange(256))
+        yield batch.bounds(*rows, rng.randrange(256))
+        yield batch.read(text_cases.text(*rows), rng.randrange(256))
+    tracks, pieces = random_boards.routed(rng, rows)
+    yield from damages(rng, rows, tracks, pieces, 1)
+    rows, tracks, pieces = random_boards.scattered(rng, rng.randint(400, 512), rng.randint(1, 40), 1000)
+    yield from damages(rng, rows, tracks, pieces, 1)
+    full = (pieces * 4095)[:4095]
+    yield batch.judge(*rows, channel.encode(len(rows[0]), tracks, full), rng.randrange(256))
+
+
+def small_board_job(_):
+    """Every layout that has each piece at most once on 2 columns and 1 track, with every channel of 2 columns."""
+    pieces = piece_sets.every_piece(2, 1)
+    for subset in range(1 << len(pieces)):
+        file = channel.encode(2, 1, [p for i, p in enumerate(pieces) if subset >> i & 1])
+        for rows in SMALL_CHANNELS:
+            yield batch.judge(*rows, file)
+
+
+def fixed_job(_):
+    """Blanks, texts about the programs' limit, the channels of the gate, the tallest board, a split trunk made by hand,
+    and each buffer too short where other refusals would follow."""
+    for tracks in [*range(0, 600), 2**16, 2**31, 2**32 - 1]:
+        yield batch.blank(tracks)
+    for text in list(random_texts.long_texts())[::2]:
+        yield batch.read(text, 1)
+    for rows in row_cases.channels():
+        yield batch.route(*rows)
+        yield batch.bounds(*rows)
+    tall = row_cases.chained(511)  # 511 tracks, the most that there can be
+    tracks, _, pieces = channel.draw(*tall)
+    yield batch.judge(*tall, channel.encode(512, tracks, pieces))
+    for pieces in (random_boards.SPLIT, random_boards.SPLIT * 2, random_boards.SPLIT[1:]):
+        yield batch.judge(*random_boards.SPLIT_ROWS, channel.encode(3, 3, pieces))
+    for fill in (2, 3):
+        for top, bot in ((0, 0), (511, 512), (512, 511), (513, 513)):
+            yield batch.read(b"TOP 0", fill, top, bot)
+        for ring, board in ((0, 0), (1021, 10239), (1022, 10239), (1021, 10240), (1023, 10241)):
+            yield batch.route([], [700], fill, ring, board)
+            yield batch.route([1, 2], [2, 1], fill, ring, board)
+        for scratch in (0, 10237, 10238, 10239):
+            yield batch.judge([], [700], b"", fill, scratch)
+
+
+JOBS = ((fixed_job, 1), (small_board_job, 1), (wide_job, 10), (maze_job, 8), (own_board_job, 8), (channel_job, 10),
+        (scatter_job, 6), (text_job, 12))
+
+
+def jobs(seed):
+    """The names of all jobs, dear ones first."""
+    return [(seed, kind.__name__, part) for kind, parts in JOBS for part in range(parts)]
+
+
+def made(job):
+    """The cases of a job, and how many of its good boards have nets with several trunks or tangled channels."""
+    seed, name, part = job
+    cases = list(globals()[name](random.Random(f"{seed} {name} {part}")))
+    good = [case for case in cases if case.kind() == batch.JUDGE and case.number() == 0]
+    return cases, Counter(feature for case in good for feature in features(case))
+
+
+def features(case):
+    """What a good board shows that the router would not draw."""
+    rows, file = case.inputs()
+    _, tracks, pieces = channel.open_board(file)
+    groups = random_boards.groups_of(pieces)
+    several, tangled, unpinned = FEATURES
+    if any(sum(p[0] == random_boards.TRUNK for p in group) > 1 for group in groups):
+        yield several
+    try:
+        channel.fill(*rows)
+    except channel.Refused:
+        yield tangled
+    if any(rows[row][column - 1] == 0 for group in groups for row, column in random_boards.edges_of(group, tracks)):
+        yield unpinned

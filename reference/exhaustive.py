@@ -1,0 +1,192 @@
+"""Compares the router with a search for good layouts with at most one trunk a net, on small channels.
+
+Usage: python3 reference/exhaustive.py [SEED]
+
+The router is asked for every channel of up to 3 columns with nets 1 to 3, for every channel of 4 columns but for the
+names of its nets, and for some of 5. It has to refuse as tangled just those of which layout_search.py finds no layout.
+"""
+import itertools
+import random
+import re
+import sys
+from multiprocessing import Pool
+
+sys.dont_write_bytecode = True  # the modules below leave nothing beside them
+
+import batch
+import channel
+import random_boards
+import random_channels
+from layout_search import TRUNK, Search, fewest
+from piece_sets import every_piece, good_channels, nets_of, rows_of, shortest_pieces
+
+SEARCH_GRIDS = ((1, 0), (1, 1), (1, 2), (1, 3), (2, 0), (2, 1), (2, 2), (3, 0), (3, 1))  # columns, tracks
+FLOOR_GRIDS = ((1, 0), (2, 0), (3, 0), (4, 0), (4, 1), (5, 0), (5, 1))
+ROUTED = re.compile(r"(\d+) (\d+) ring((?: \d+)*) kept board((?: [0-9a-f]+)?) kept inputs kept")
+
+
+# --- channels -------------------------------------------------------------------------------------------------------
+
+def no_lone_pin(pins):
+    return all(pins.count(net) > 1 for net in pins if net)
+
+
+def named_channels(width, nets):
+    """Every channel of a width with these net numbers, 1 up."""
+    for pins in itertools.product(range(nets + 1), repeat=2 * width):
+        if no_lone_pin(pins):
+            yield list(pins[:width]), list(pins[width:])
+
+
+def shapes(width):
+    """Every channel of a width, but for the names of its nets: a new net takes the next number."""
+    def extend(pins, nets):
+        if len(pins) < 2 * width:
+            for net in range(nets + 2):
+                yield from extend(pins + (net,), max(nets, net))
+        elif no_lone_pin(pins):
+            yield pins[:width], pins[width:]
+    return extend((), 0)
+
+
+def shape_of(top, bot):
+    name = {0: 0}
+    for net in [*top, *bot]:
+        name.setdefault(net, len(name))
+    return tuple(name[n] for n in top), tuple(name[n] for n in bot)
+
+
+def free(top, bot):
+    """Whether no column holds pins of two different nets."""
+    return not channel.steps_of(top, bot)
+
+
+def asked(seed):
+    """The channels that the router is asked for."""
+    rng = random.Random(f"{seed} exhaustive")
+    rows = [r for width in (1, 2, 3) for r in named_channels(width, 3)]
+    rows += [random_channels.renumbered(rng, *map(list, shape)) for shape in shapes(4)]
+    for _ in range(6000):
+        top, bot = random_channels.narrow(rng, 5) if rng.random() < 0.7 else random_channels.tangled(rng, 5)
+        if len(top) == 5:
+            rows.append(random_channels.renumbered(rng, top, bot))
+    return rows
+
+
+# --- the search against all sets of pieces --------------------------------------------------------------------------
+
+def search_differences():
+    """Whether the search finds a layout, against all sets of all pieces."""
+    for width, tracks in SEARCH_GRIDS:
+        good = good_channels(width, tracks, every_piece(width, tracks), True)
+        for top, bot in shapes(width):
+            if (Search(top, bot, tracks).layout() is not None) != (nets_of(top, bot) in good):
+                yield f"the search and all sets of pieces differ on {tracks} tracks", (top, bot)
+
+
+def floor_differences():
+    """Where no column holds pins of two nets, no layout, split trunks included, has fewer tracks than the density."""
+    for width, tracks in FLOOR_GRIDS:
+        good = good_channels(width, tracks, shortest_pieces(width, tracks), False)
+        for top, bot in (rows_of(nets, width) for nets in good):
+            if free(top, bot) and channel.bounds(top, bot)[0] > tracks:
+                yield f"a layout of {tracks} tracks is below the density", (top, bot)
+
+
+def aside(name):
+    """The differences of one of these two, for a process of its own."""
+    return list({"search": search_differences, "floor": floor_differences}[name]())
+
+
+# --- the router -----------------------------------------------------------------------------------------------------
+
+def ring_right(top, bot, pairs):
+    """Whether pairs of net and column are a ring: different nets, each above the next, and the last above the first."""
+    nets = [net for net, _ in pairs]
+    steps = zip(pairs, nets[1:] + nets[:1])
+    return len(set(nets)) == len(nets) > 0 and all(
+        1 <= c <= len(top) and (top[c - 1], bot[c - 1]) == (net, below) for (net, c), below in steps)
+
+
+def router_fault(rows, line, found):
+    """What is wrong with the router's answer to rows for which the search found this, or None."""
+    answer = ROUTED.fullmatch(line)
+    if not answer:
+        return f"the router's answer is '{line}'"
+    number, value, ring = int(answer[1]), int(answer[2]), list(map(int, answer[3].split()))
+    if number not in (0, 7) or (number == 7) != (found is None):
+        layouts = "no layout" if found is None else f"a layout of {found[0]} tracks"
+        return f"the router answers {number} {value}, and the search finds {layouts}"
+    if number == 7:
+        right = len(ring) == 2 * value and ring_right(*rows, list(zip(ring[::2], ring[1::2])))
+        return None if right else f"{ring} is no ring of {value} nets"
+    return board_fault(rows, bytes.fromhex(answer[4]), found[0])
+
+
+def board_fault(rows, file, least):
+    """What is wrong with the router's board, or None."""
+    try:
+        tracks = channel.judge(*rows, file)
+    except channel.Refused as refusal:
+        return f"the router's board is faulty: {refusal}"
+    groups = random_boards.groups_of(channel.open_board(file)[2])
+    if any(sum(piece[0] == TRUNK for piece in group) > 1 for group in groups):
+        return "a net has two trunks"
+    if not least <= tracks <= len(set(rows[0] + rows[1]) - {0}):
+        return f"the board has {tracks} tracks, and {least} are the fewest"
+    density = channel.bounds(*rows)[0]
+    if free(*rows) and not tracks == least == density:
+        return f"the board has {tracks} tracks, the fewest are {least} and the density is {density}"
+    return None
+
+
+def router_differences(channels, found):
+    """The router against what the search found of each shape; the layouts found go to both judges."""
+    lent = channel.RING, channel.BOARD
+    questions = [batch.Case(batch.ROUTE, "", 1, lent, *rows).question for rows in channels]
+    judged = [batch.judge(list(top), list(bot), channel.encode(len(top), *layout))
+              for (top, bot), layout in found.items() if layout]
+    lines = batch.answers(questions + [case.question for case in judged])
+    for rows, line in zip(channels, lines):
+        fault = router_fault(rows, line, found[shape_of(*rows)])
+        if fault:
+            yield fault, rows
+    for case, line in zip(judged, lines[len(questions):]):
+        if line != case.due or case.number() != 0:
+            yield f"a layout that the search found is judged {line}, here {case.due}", case.inputs()[0]
+
+
+def told(difference):
+    """A difference for people, with the channel as a pin list."""
+    fault, (top, bot) = difference
+    return "\n".join([fault, batch.joined("TOP", *top), batch.joined("BOT", *bot)])
+
+
+def compare(seed):
+    """The first difference, or None; and what was compared, in words."""
+    channels = asked(seed)
+    different = sorted({shape_of(*rows) for rows in channels})
+    with Pool(batch.WORKERS) as pool:
+        others = [pool.apply_async(aside, (name,)) for name in ("search", "floor")]
+        found = dict(zip(different, pool.map(fewest, different, chunksize=100)))
+        differences = [d for other in others for d in other.get()]
+    differences += router_differences(channels, found)
+    tangled, loose = sum(found[shape_of(*rows)] is None for rows in channels), sum(free(*rows) for rows in channels)
+    return told(differences[0]) if differences else None, (
+        f"{len(channels)} channels, {len(different)} but for the names of nets; {tangled} have no layout with one trunk"
+        f" a net and are refused, the others are routed well; {loose} have no column with two nets and as many tracks"
+        " as the density")
+
+
+def main(arguments):
+    if len(arguments) > 1:
+        print("usage: exhaustive.py [SEED]", file=sys.stderr)
+        return 2
+    batch.build()
+    difference, counts = compare(arguments[0] if arguments else "2026")
+    print(difference or f"exhaustive: {counts}")
+    return 1 if difference else 0
+
+
+if __name__ == "__main__":
+    sys.exit(main(sys.argv[1:]))

@@ -1,0 +1,140 @@
+"""Cases for the three programs: what each is given and what it must write, to the byte."""
+import random
+import re
+import subprocess
+from pathlib import Path
+
+import channel
+import examples
+import random_boards
+import random_channels
+import random_texts
+import row_cases
+import text_cases
+
+BINS = Path(__file__).resolve().parent.parent / "target" / "bin"
+FORM_SHOWN = re.compile(rb"TOP[ 0-9]+\nBOT[ 0-9]+\n")
+
+
+class Case:
+    """A program, its input (for the judge the files `pins` and `board`, None if absent) and the output due."""
+
+    def __init__(self, program, pins, board=None):
+        self.program, self.pins, self.board = program, pins, board
+        if program == "board_judge":
+            self.due = channel.judged(pins or b"", board or b"")
+        else:
+            self.due = {"listing": channel.listing, "board_writer": channel.board}[program](pins)
+
+    def run(self):
+        """What the program writes, or how it ended if it failed."""
+        try:
+            if self.program == "board_judge":
+                return examples.judged(BINS / self.program, self.pins, self.board)
+            return examples.run(BINS / self.program, self.pins)
+        except subprocess.CalledProcessError as failure:
+            return b"ended with status %d" % failure.returncode
+
+    def number(self):
+        """The number after REFUSED, or None for a listing, a board or a good one."""
+        match = re.match(rb"REFUSED (\d+) ", self.due)
+        return int(match.group(1)) if match else None
+
+    def shown(self):
+        lines = [self.program, shown_file("pins", self.pins)]
+        if FORM_SHOWN.fullmatch(self.pins or b""):
+            lines.append(self.pins.decode("ascii").rstrip("\n"))
+        if self.program == "board_judge":
+            lines.append(shown_file("board", self.board))
+        return "\n".join(lines)
+
+
+def shown_file(name, data):
+    return f"{name}: absent" if data is None else f"{name}: {len(data)} bytes {data.hex()}"
+
+
+def both(texts):
+    return [Case(program, text) for text in texts for program in ("listing", "board_writer")]
+
+
+def text_job(rng):
+    """Narrow channels, refused rows, and texts with slips."""
+    for _ in range(45):
+        yield from both([random_texts.drawn(rng, *random_channels.escaping(rng))])
+        yield from both([text_cases.text(*random_channels.escaping(rng))])
+    for _ in range(15):
+        yield from both([text_cases.text(*random_channels.refused(rng)), random_texts.noise(rng)])
+
+
+def bench_job(_):
+    """The paper's examples, faults H to J of A among them."""
+    yield from both(text for text, _ in examples.LISTED.values())
+    width, tracks, pieces = channel.open_board(channel.board(examples.A))
+    for changed in (pieces, pieces[:7] + pieces[8:], pieces[:3] + [(1, 2, 1, 3)] + pieces[4:], pieces + [(0, 2, 3, 4)]):
+        yield Case("board_judge", examples.A, channel.encode(width, tracks, changed))
+    yield Case("board_judge", examples.A, channel.encode(width, tracks, pieces + [(3, 1, 1, 2)]))
+    yield Case("board_judge", examples.A, channel.encode(width + 1, tracks, pieces))
+
+
+def wide_job(rng):
+    for _ in range(15):
+        yield from both([text_cases.text(*random_channels.wide(rng))])
+    most = row_cases.chained(511), row_cases.ring(255, 100), ([0] * 512, [0] * 512), ([0] * 513, [0] * 513)
+    yield from both(text_cases.text(*rows) for rows in most)
+
+
+def long_job(_):
+    """Texts about the limit, and none."""
+    yield from both([b""])
+    yield from (Case("listing", text) for text in random_texts.long_texts())
+    yield from (Case("board_writer", text) for text in list(random_texts.long_texts())[::5])
+
+
+def board_job(rng):
+    """Channels with their own boards, damaged ones and boards of others; and tangled channels with split trunks."""
+    for i in range(30):
+        rows = random_channels.wide(rng) if i % 12 == 0 else random_channels.escaping(rng)
+        tracks, pieces = random_boards.routed(rng, rows)
+        text, width = text_cases.text(*rows), len(rows[0])
+        file = channel.encode(width, tracks, pieces)
+        slip = random_boards.damaged_pieces(rng, tracks, pieces, width)
+        yield Case("board_judge", text, file)
+        yield Case("board_judge", text, channel.encode(width, tracks, slip))
+        yield Case("board_judge", text, random_boards.damaged_file(rng, file))
+        yield Case("board_judge", text_cases.text(*random_channels.escaping(rng)), file)
+    for _ in range(15):
+        rows = random_boards.spaced(rng, *random_channels.renumbered(rng, *random_channels.tangled(rng, 3)), 0.6)
+        rows, tracks, pieces = random_boards.mazed(rng, *rows, 2 + len(rows[0]))
+        yield Case("board_judge", text_cases.text(*rows), channel.encode(len(rows[0]), tracks, pieces))
+
+
+def file_job(rng):
+    """Files that are absent, empty, or about the limit; `pins` is refused before `board` is read."""
+    text = text_cases.GOOD
+    file = channel.board(text)
+    long = bytes(channel.LIMIT + 1)
+    uneven, lone = text_cases.text([1, 1], [0]), text_cases.text([1], [0])
+    for pins in (None, b"", text, b"TOP 01", uneven, lone, long, text + long):
+        for board in (None, b"", file, file[:-1], long[:-1], long, file + long):
+            yield Case("board_judge", pins, board)
+    full = [(1, 1 + k % 4, 0, 3) for k in range(4095)]
+    joined = full[:-4] + [(0, 1, 1, 4)] + [(2, 1 + k, 1, 1) for k in range(3)]
+    yield Case("board_judge", text, channel.encode(4, 2, full))
+    yield Case("board_judge", text_cases.text([1] * 4, [1] * 4), channel.encode(4, 2, joined))
+    yield Case("board_judge", text_cases.text([1] * 3 + [0], [1] * 3 + [0]), channel.encode(4, 2, joined))
+    yield Case("board_judge", text, channel.encode(4, 2, full) + bytes(rng.randint(1, 9)))
+
+
+JOBS = ((long_job, 1), (wide_job, 1), (file_job, 1), (bench_job, 1), (board_job, 2), (text_job, 2))
+
+
+def jobs(seed):
+    """The names of all jobs, dear ones first."""
+    return [(seed, kind.__name__, part) for kind, parts in JOBS for part in range(parts)]
+
+
+def made_and_run(job):
+    """The cases of a job, and what the programs wrote."""
+    seed, name, part = job
+    cases = list(globals()[name](random.Random(f"{seed} programs {name} {part}")))
+    return cases, [case.run() for case in cases]

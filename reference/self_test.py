@@ -1,0 +1,89 @@
+"""The test of the comparison itself: a wrong answer in each part has to be found, and shown with its input."""
+import batch
+import channel
+import exhaustive
+import layout_search
+import program_cases
+import text_cases
+
+ROWS = ([0, 1, 2, 3], [1, 2, 0, 3])
+PINS = "TOP 0 1 2 3\nBOT 1 2 0 3"
+FILE = channel.board(text_cases.GOOD)
+
+
+def wrong_dues(cases, answers, first_difference):
+    """Changes the answer due of each case in turn: the difference has to name that case."""
+    if first_difference(cases, answers):
+        yield f"a right answer is called a difference: {first_difference(cases, answers)}"
+    for case in cases:
+        right = case.due
+        case.due = right + right[-1:]
+        told = first_difference(cases, answers)
+        if not told or case.shown() not in told:
+            yield f"a wrong answer is not found: {case.shown()}"
+        case.due = right
+
+
+def program_faults(first_difference):
+    inputs = (("listing",), ("board_writer",), ("board_judge", FILE), ("board_judge", None))
+    cases = [program_cases.Case(program, text_cases.GOOD, *board) for program, *board in inputs]
+    if PINS not in cases[0].shown() or FILE.hex() not in cases[2].shown():
+        yield "a program's input is not shown"
+    yield from wrong_dues(cases, [case.run() for case in cases], first_difference)
+
+
+def entry_questions():
+    return [batch.read(text_cases.GOOD), batch.bounds(*ROWS), batch.route(*ROWS), batch.judge(*ROWS, FILE),
+            batch.blank(9), batch.route([1, 2], [2, 1])]
+
+
+def entry_faults(first_difference):
+    cases = entry_questions()
+    if PINS not in cases[2].shown() or FILE.hex() not in cases[3].shown():
+        yield "an entry's input is not shown"
+    yield from wrong_dues(cases, batch.answers([case.question for case in cases]), first_difference)
+    missing = batch.answers([cases[0].question, b"\x09" + bytes(batch.HEADER.size - 1), cases[1].question])
+    if len(missing) != 3 or missing[0] != cases[0].due or "no answer" not in missing[1]:
+        yield "a batch program that ends too soon is not told"
+
+
+def buffer_faults():
+    """Entries that write beside what they may."""
+    program = batch.PROGRAM.with_name("batch_wrong")
+    batch.build(batch.ROOT / "reference" / "wrong_entries.c", program)
+    due = ["0 1 top 0 kept bot 0 changed 2048 inputs kept", "0 0 inputs changed",
+           "7 1 ring 1 2 changed 8 board changed -1 inputs kept", "0 2 scratch changed 40952 inputs kept",
+           "14 9 inputs kept"]
+    for line, wanted in zip(batch.answers([case.question for case in entry_questions()[:5]], program), due):
+        if line != wanted:
+            yield f"a spoilt byte is told as '{line}', due '{wanted}'"
+
+
+def search_faults():
+    """A search that finds a layout of a tangled channel, or none of another, or one of another number of tracks."""
+    rows = [([1, 2], [2, 1]), ROWS, ([7, 7], [0, 0])]
+    found = {exhaustive.shape_of(*r): layout_search.fewest(exhaustive.shape_of(*r)) for r in rows}
+    if list(exhaustive.router_differences(rows, found)):
+        yield "the router and the search differ"
+    for top, bot in rows:
+        shape = exhaustive.shape_of(top, bot)
+        for wrong in [(0, [])] if found[shape] is None else [None, (3, found[shape][1])]:
+            told = [exhaustive.told(d) for d in exhaustive.router_differences(rows, {**found, shape: wrong})]
+            if not any(batch.joined("TOP", *top) in text and batch.joined("BOT", *bot) in text for text in told):
+                yield f"a wrong search is not found: {top} {bot} {wrong}"
+    if not exhaustive.router_fault(([1, 2], [2, 1]), "7 1 ring 1 2 changed 8 board kept inputs kept", None):
+        yield "a spoilt ring is not found"
+    cut = channel.encode(4, 2, channel.open_board(FILE)[2][:-1])
+    if exhaustive.ring_right([1, 2], [2, 1], [(1, 1), (2, 1)]):
+        yield "a wrong ring is not found"
+    if exhaustive.board_fault(ROWS, FILE, 2) or not exhaustive.board_fault(ROWS, cut, 2):
+        yield "a wrong board is not found, or a right one called wrong"
+
+
+def compare(first_difference, lacking):
+    """The first fault of the comparison, or None; and what was tried, in words."""
+    faults = [*program_faults(first_difference), *entry_faults(first_difference), *buffer_faults(), *search_faults()]
+    if lacking({1, 2}, {1, 2, 3}) is None or lacking({1, 2}, {1, 2}):
+        faults.append("a number that is never answered is not told")
+    return faults[0] if faults else None, (
+        "wrong answers of programs and entries, spoilt buffers and a wrong search are found and shown")

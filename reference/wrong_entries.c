@@ -1,0 +1,51 @@
+/* Entries that write just beside what they may: the batch program has to tell each such byte. The test of the
+ * comparison links them in place of the proved ones. */
+#include <stddef.h>
+
+#include "channel.h"
+
+/* Changes the byte at an offset that may lie outside a buffer. */
+static void spoil(void *start, ptrdiff_t offset) { ((uint8_t *)start)[offset] ^= 0xFF; }
+
+static uint64_t told(uint32_t number, uint32_t value) { return (uint64_t)number << 32 | value; }
+
+/* One column, and the byte after BOT. */
+uint64_t cabjirt_read(const uint8_t *text, size_t text_length, uint32_t *top, size_t top_length, uint32_t *bot,
+                      size_t bot_length)
+{
+    (void)text, (void)text_length, (void)top_length;
+    top[0] = bot[0] = 0;
+    spoil(bot, (ptrdiff_t)(bot_length * sizeof *bot));
+    return told(0, 1);
+}
+
+/* A changed row. */
+uint64_t cabjirt_bounds(const uint32_t *top, size_t top_length, const uint32_t *bot, size_t bot_length)
+{
+    (void)bot, (void)top_length, (void)bot_length;
+    spoil((uint32_t *)top, 0);
+    return told(0, 0);
+}
+
+/* A ring of one pair with a third number, and the byte before the board. */
+uint64_t cabjirt_route(const uint32_t *top, size_t top_length, const uint32_t *bot, size_t bot_length, uint32_t *ring,
+                       size_t ring_length, uint8_t *board, size_t board_length)
+{
+    (void)top, (void)top_length, (void)bot, (void)bot_length, (void)ring_length, (void)board_length;
+    ring[0] = 1;
+    ring[1] = 2;
+    spoil(ring, 8);
+    spoil(board, -1);
+    return told(7, 1);
+}
+
+/* The byte after scratch. */
+uint64_t cabjirt_judge(const uint32_t *top, size_t top_length, const uint32_t *bot, size_t bot_length,
+                       const uint8_t *board, size_t board_length, uint32_t *scratch, size_t scratch_length)
+{
+    (void)top, (void)top_length, (void)bot, (void)bot_length, (void)board, (void)board_length;
+    spoil(scratch, (ptrdiff_t)(scratch_length * sizeof *scratch));
+    return told(0, 2);
+}
+
+uint64_t cabjirt_blank(uint32_t tracks) { return told(14, tracks); }
