@@ -228,15 +228,8 @@ def points_of(piece):
     return [(0, line, a), (1, line, a)]
 
 
-def judge(top, bot, file, scratch=SCRATCH):
-    """The tracks of a good board; or refusals 1, 3 to 6, 8 to 10 and faults 11 to 13."""
-    if scratch < SCRATCH:
-        raise Refused(1, SCRATCH)
-    check(top, bot)
-    width, tracks, pieces = open_board(file)
-    if width != len(top):
-        raise Refused(10, width)
-    # copper of one layer that covers a point is one conductor there; pieces are flooded from point to point
+def flood(pieces):
+    """A colour for each piece, the same for joined pieces: copper of one layer that covers a point is one conductor there."""
     over = {}
     for i, piece in enumerate(pieces):
         for point in points_of(piece):
@@ -252,29 +245,43 @@ def judge(top, bot, file, scratch=SCRATCH):
                             colour[j] = colours
                             wave.append(j)
             colours += 1
-    # a pin touches a branch over its point; all branches over one point are of one colour already
+    return colour
+
+
+def coloured_pins(top, bot, tracks, pieces, colour):
+    """Position, net and colour of each pin: that of the branches over its point, which have one colour, or one of its own."""
     branches = {}
     for i, piece in enumerate(pieces):
         if piece[0] == 1:
             for _, c, r in points_of(piece):
                 branches[c, r] = colour[i]
-    place = {}
-    for c, (a, b) in enumerate(zip(top, bot), 1):
-        for position, net, row in ((c, a, tracks + 1), (width + c, b, 0)):
+    pins = []
+    for row, nets, before in ((tracks + 1, top, 0), (0, bot, len(top))):
+        for c, net in enumerate(nets, 1):
             if net:
-                place[position] = (net, branches.get((c, row), ("alone", position)))
-    owner = {}
-    for position in sorted(place):
-        net, group = place[position]
+                pins.append((before + c, net, branches.get((c, row), ("alone", before + c))))
+    return pins
+
+
+def judge(top, bot, file, scratch=SCRATCH):
+    """The tracks of a good board; or refusals 1, 3 to 6, 8 to 10 and faults 11 to 13."""
+    if scratch < SCRATCH:
+        raise Refused(1, SCRATCH)
+    check(top, bot)
+    width, tracks, pieces = open_board(file)
+    if width != len(top):
+        raise Refused(10, width)
+    colour = flood(pieces)
+    pins = coloured_pins(top, bot, tracks, pieces, colour)
+    owner, first = {}, {}
+    for position, net, group in pins:
         if owner.setdefault(group, net) != net:
             raise Refused(11, position)
-    first = {}
-    for position in sorted(place):
-        net, group = place[position]
+    for position, net, group in pins:
         if first.setdefault(net, group) != group:
             raise Refused(12, position)
-    for number, i in enumerate(range(len(pieces)), 1):
-        if colour[i] not in owner:
+    for number, group in enumerate(colour, 1):
+        if group not in owner:
             raise Refused(13, number)
     return tracks
 
