@@ -1,11 +1,13 @@
 -- The table grows by the record of each number that has a first column; with a channel's own arrays these numbers are its nets, and the table is that of the definitions.
-use Prim.Native.Nat.{ℕ, _+_, _≤_}
+use Prim.Native.Nat.{ℕ, _+_, _≤_, _<_}
 use native.Mathlib.Omega.{arith}
 use mathlib.Core.Path.{_≡_, refl, sym, _∙_, ap, subst}
 use mathlib.Core.List.{List, [], _∷_, _++_, map, map-append, List·Memᴰ}
 use mathlib.Core.Logic.{⊎-elim}
 use mathlib.Core.Bool.{Bool, not}
-use lib.ListN.{length, take, getD, length-map, length-append}
+use lib.ListN.{length, take, getD, set, length-map, length-append, length-set}
+use lib.Seq.{take-suc-set}
+use native.Mathlib.Numerals.{add-one}
 use lib.Dec.{T, eqb, eqb→eq}
 use borrow.Author.Tests.{eq-eqb, ne-eqb}
 use Rattle.lists.specs.Lists.{keep, from, upTo}
@@ -59,12 +61,17 @@ module _ (first last tracks : List ℕ) where
     no-more-made h =
         ap (map (recordAt first last tracks)) (keep-next-fails (hasFirst first) k (λ t. not-fails (eqb (getD first (k + 1) 0) 0) t (subst (λ (x : ℕ). T (eqb x 0)) (sym h) tt)))
 
--- one record more at the front of the table
-pub listed-next : {made table table′ : List NetRecord} {count count′ : ℕ} (r : NetRecord) → Listed made table count → count′ ≡ count + 1 → length table′ ≡ recordTray → take count′ table′ ≡ take count table ++ (r ∷ []) → Listed (made ++ (r ∷ [])) table′ count′
-listed-next {made} r l n long e =
+-- a table with no record, and one stored just behind the front
+pub listed-none : {table : List NetRecord} → length table ≡ recordTray → Listed [] table 0
+listed-none long = record { sized = long; counted = refl; front = refl }
+
+pub listed-next : {made table : List NetRecord} {count : ℕ} (r : NetRecord) → Listed made table count → count < recordTray → Listed (made ++ (r ∷ [])) (set table count r) (count + 1)
+listed-next {made} {table} {count} r l h =
     let c = l .counted in
+    let long = l .sized in
+    let same = length-set table count r in
     let more = length-append made (r ∷ []) in
-    record { sized = long; counted = omega arith; front = e ∙ ap (λ (m : List NetRecord). m ++ (r ∷ [])) (l .front) }
+    record { sized = omega arith; counted = omega arith; front = rw add-one (take-suc-set table count r (omega arith)) ∙ ap (λ (m : List NetRecord). m ++ (r ∷ [])) (l .front) }
 
 module _ (ch : Channel) (esc : Escapes ch) (first last : List ℕ) (e : first ≡ firsts ch) (d : last ≡ lasts ch) where
   -- the numbers with a first column are the nets

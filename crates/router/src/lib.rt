@@ -50,56 +50,35 @@ fn blank_records() -> [NetRecord; 511]
     [nobody; 511]
 }
 
-// A table with no record.
-fn no_records() -> Table
-    ensures { λ r. ⌜ Listed [] (r .records) (r .count) ⌝ }
-{
-    let records = blank_records();
-    Table { records, count: 0 }
-}
-
-// The table with one record more.
-fn with_record(t: Table, r: NetRecord) -> Table
-    requires { ⌜ (t .count < 511) × (length (t .records) ≡ 511) ⌝ }
-    ensures { λ s.
-        ⌜ (s .count ≡ t .count + 1) × (length (s .records) ≡ 511) × (take (s .count) (s .records) ≡ take (t .count) (t .records) ++ (r ∷ [])) ⌝ }
-{
-    let mut next = t;
-    let at = next.count;
-    next.records[at] = r;
-    next.count = at + 1;
-    next
-}
-
-// The record of each number that has a first column, in rising number.
+// The record of each number that has a first column, in rising number. The records are stored where the table lies: one passed by value would be copied
+// whole for each.
 fn make_records(first: &[u32; 512], last: &[u32; 512], tracks: &[u32; 512]) -> Table
     ensures { λ r. ⌜ Listed (recordsBy (now (first .entry)) (now (last .entry)) (now (tracks .entry))) (r .records) (r .count) ⌝ }
 {
-    let mut table = no_records();
+    let mut records = blank_records();
+    let mut count: usize = 0;
     let mut n: usize = 0;
     while n < 511 {
         n += 1;
         if first[n] != 0 {
-            table = with_record(
-                table,
-                NetRecord {
-                    number: Net(n as u32),
-                    first: Column(first[n]),
-                    last: Column(last[n]),
-                    track: Track(tracks[n]),
-                },
-            );
+            let record = NetRecord {
+                number: Net(n as u32),
+                first: Column(first[n]),
+                last: Column(last[n]),
+                track: Track(tracks[n]),
+            };
+            records[count] = record;
+            count += 1;
         }
     }
-    table
+    Table { records, count }
 }
 
 // The answer of a refusal.
 fn refused(refusal: Refusal) -> Routing
     ensures { λ r. ⌜ (r .answer ≡ RouteAnswer.Refused refusal) × (r .count ≡ 0) ⌝ }
 {
-    let table = no_records();
-    let records = table.records;
+    let records = blank_records();
     Routing {
         answer: RouteAnswer::Refused(refusal),
         records,
