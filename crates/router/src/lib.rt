@@ -94,15 +94,21 @@ fn route_checked(top: &[u32], bot: &[u32], ring: &mut [u32], board: &mut [u8]) -
 {
     let spans = channel::find_spans(top, bot);
     let first = spans.first;
-    let last = spans.last;
-    let filled = leftedge::fill_tracks(top, bot, &first, &last, ring);
+    let filled = leftedge::fill_tracks(top, bot, &first, &spans.last, ring);
     let outcome = filled.outcome;
-    let tracks = filled.tracks;
     match outcome {
         Outcome::Stuck(pairs) => refused(Refusal::Tangled(pairs as usize)),
         Outcome::Placed(t) => {
-            let pieces = drawing::draw_board(top, bot, &first, &last, &tracks, t, board);
-            let table = make_records(&first, &last, &tracks);
+            let pieces = drawing::draw_board(
+                top,
+                bot,
+                &first,
+                &spans.last,
+                &filled.tracks,
+                t,
+                board,
+            );
+            let table = make_records(&first, &spans.last, &filled.tracks);
             let records = table.records;
             Routing {
                 answer: RouteAnswer::Routed { tracks: t, pieces },
