@@ -1,0 +1,90 @@
+/* The measuring program that ./bench runs and whose lines bench/report.py reads.
+ *
+ *   agree ROUNDS     compares both sides; the exit status is 1 if they differ
+ *   facts            INPUT shape columns pieces bounds route: the size of each input and the library's answers, number and value
+ *   time SECONDS     TIME operation shape columns nanoseconds of Rattle and of C, about so many seconds each
+ *   count            COUNT operation shape side, in the order of the calls of `measured`: one call each, for valgrind to count
+ */
+#include <inttypes.h>
+#include <stdio.h>
+#include <stdlib.h>
+#include <string.h>
+
+#include "agree.h"
+#include "inputs.h"
+#include "measure.h"
+
+static struct input input;
+static struct lent lent;
+
+static void print_answer(uint64_t answer)
+{
+    printf(" %" PRIu64 " %" PRIu64, answer >> 32, answer & UINT32_MAX);
+}
+
+static int facts(void)
+{
+    for (enum shape shape = 0; shape < SHAPES; shape++) {
+        make_input(shape, 512, &input);
+        printf("INPUT %s %zu %zu", shape_names[shape], input.top_length, pieces_of(&input));
+        lend(&lent);
+        print_answer(call(RATTLE, BOUNDS, &input, &lent));
+        print_answer(call(RATTLE, ROUTE, &input, &lent));
+        putchar('\n');
+    }
+    return 0;
+}
+
+static void time_one(enum operation operation, enum shape shape, size_t width, double seconds)
+{
+    double medians[SIDES];
+    make_input(shape, width, &input);
+    measure(operation, &input, seconds, medians);
+    printf("TIME %s %s %zu %.1f %.1f\n", operation_names[operation], shape_names[shape], input.top_length, medians[RATTLE],
+           medians[PLAIN_C]);
+    fflush(stdout);
+}
+
+static int time_all(double seconds)
+{
+    for (enum operation operation = 0; operation < OPERATIONS; operation++)
+        for (enum shape shape = 0; shape < SHAPES; shape++)
+            if (measured_on(operation, shape))
+                time_one(operation, shape, 512, seconds);
+    for (enum operation operation = BOUNDS; operation < OPERATIONS; operation++)
+        for (size_t width = 64; width < 512; width *= 2) {
+            time_one(operation, DENSE, width, seconds);
+            time_one(operation, FULLEST, width, seconds);
+        }
+    return 0;
+}
+
+static int count_all(void)
+{
+    for (enum operation operation = 0; operation < OPERATIONS; operation++)
+        for (enum shape shape = 0; shape < SHAPES; shape++)
+            if (measured_on(operation, shape)) {
+                make_input(shape, 512, &input);
+                for (enum side side = 0; side < SIDES; side++) {
+                    lend(&lent);
+                    call(side, operation, &input, &lent); /* so that finding the C library's functions is not counted */
+                    measured(side, operation, &input, &lent);
+                    printf("COUNT %s %s %s\n", operation_names[operation], shape_names[shape], side_names[side]);
+                }
+            }
+    return 0;
+}
+
+int main(int argc, char **argv)
+{
+    if (argc == 3 && strcmp(argv[1], "agree") == 0)
+        return agree(strtoul(argv[2], NULL, 10)) ? 0 : 1;
+    if (argc == 2 && strcmp(argv[1], "facts") == 0)
+        return facts();
+    if (argc == 3 && strcmp(argv[1], "time") == 0)
+        return time_all(strtod(argv[2], NULL));
+    if (argc == 2 && strcmp(argv[1], "count") == 0)
+        return count_all();
+    fprintf(stderr, "usage: bench agree ROUNDS | facts | time SECONDS | count\n");
+    return 2;
+}

@@ -1,0 +1,13 @@
+/* measure.h: how long an operation takes on either side. */
+#ifndef MEASURE_H
+#define MEASURE_H
+
+#include "inputs.h"
+
+/* Times an operation on both sides in turn, for about so many seconds; medians in nanoseconds a call. */
+void measure(enum operation operation, const struct input *input, double seconds, double medians[SIDES]);
+
+/* Calls an operation. Its name is what valgrind is told to count within. */
+uint64_t measured(enum side side, enum operation operation, const struct input *input, struct lent *lent);
+
+#endif

@@ -1,0 +1,120 @@
+/* Random channels, boards and texts, from a seeded row of numbers. */
+#include <string.h>
+
+#include "inputs.h"
+#include "text.h"
+
+static uint64_t state;
+
+void seed(uint64_t first)
+{
+    state = first * 0x9E3779B97F4A7C15u + 1;
+}
+
+uint32_t below(uint32_t n)
+{
+    state ^= state << 13;
+    state ^= state >> 7;
+    state ^= state << 17;
+    return (uint32_t)((state >> 32) % n);
+}
+
+/* Takes away the pins of nets with one pin. */
+static void drop_lone(struct input *in)
+{
+    size_t counts[512] = {0};
+    for (size_t i = 0; i < in->top_length; i++) {
+        counts[in->top[i]]++;
+        counts[in->bot[i]]++;
+    }
+    for (size_t i = 0; i < in->top_length; i++) {
+        if (counts[in->top[i]] == 1)
+            in->top[i] = 0;
+        if (counts[in->bot[i]] == 1)
+            in->bot[i] = 0;
+    }
+}
+
+/* Rows of a random width; one in three has no two nets in a column. */
+static void random_rows(struct input *in)
+{
+    uint32_t width = below(20) == 0 ? 1 + below(512) : 1 + below(14);
+    uint32_t nets = 1 + below(width < 511 ? width : 511), full = 1 + below(4);
+    bool unconstrained = below(3) == 0;
+    memset(in->top, 0, sizeof in->top);
+    memset(in->bot, 0, sizeof in->bot);
+    in->top_length = in->bot_length = width;
+    for (uint32_t i = 0; i < width; i++) {
+        in->top[i] = below(4) < full ? 1 + below(nets) : 0;
+        in->bot[i] = unconstrained ? (below(2) ? in->top[i] : 0) : below(4) < full ? 1 + below(nets) : 0;
+    }
+    drop_lone(in);
+}
+
+/* A slip in the rows that is refused. */
+static void spoil_rows(struct input *in)
+{
+    uint32_t i = below((uint32_t)in->top_length);
+    switch (below(5)) {
+    case 0:
+        in->top[i] = 512 + below(9);
+        break;
+    case 1:
+        in->bot[i] = 512 + below(9);
+        break;
+    case 2:
+        in->top[i] = 511;
+        break;
+    case 3:
+        in->bot_length = below(ROW + 8);
+        break;
+    default:
+        in->top_length = below(ROW + 8);
+    }
+}
+
+/* One of many slips in a board file: a bit, a piece's field, a piece more or less, a cut. */
+static void damage_file(struct input *in)
+{
+    uint32_t pieces = (uint32_t)pieces_of(in);
+    if (below(4) == 0) {
+        in->file[below((uint32_t)in->file_length)] ^= (uint8_t)(1u << below(8));
+        return;
+    }
+    if (below(20) == 0) {
+        in->file_length = below((uint32_t)in->file_length + 1);
+        return;
+    }
+    if (pieces < 2)
+        return;
+    uint8_t *a = in->file + 4 + 4 * below(pieces), *b = in->file + 4 * pieces;
+    if (below(2) == 0) {
+        memcpy(a, b, 4);
+        return;
+    }
+    memmove(a, a + 4, (size_t)(b - a));
+    in->file_length -= 4;
+    uint32_t count = ((in->file[2] & 31u) << 8 | in->file[3]) - 2;
+    in->file[2] = (uint8_t)((in->file[2] & 0xE0u) | count >> 8);
+    in->file[3] = (uint8_t)count;
+}
+
+void random_input(struct input *in)
+{
+    random_rows(in);
+    if (below(8) == 0)
+        spoil_rows(in);
+    write_text(in);
+    draw_file(in);
+    for (uint32_t slips = below(3); slips > 0 && in->file_length >= 4; slips--)
+        damage_file(in);
+}
+
+void garble(struct input *in)
+{
+    static const char likely[] = "TOPBOT 0123456789 \n\n  ";
+    if (below(3) == 0)
+        in->text_length = below((uint32_t)in->text_length + 1);
+    else
+        in->text[below((uint32_t)in->text_length)] = (uint8_t)likely[below(sizeof likely - 1)];
+}
