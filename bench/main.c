@@ -4,6 +4,8 @@
  *   facts            INPUT shape columns pieces bounds route: the size of each input and the library's answers, number and value
  *   time SECONDS     TIME operation shape columns nanoseconds of Rattle and of C, about so many seconds each
  *   count            COUNT operation shape side, in the order of the calls of `measured`: one call each, for valgrind to count
+ *   one SIDE OPERATION SHAPE REPEATS
+ *                    calls one operation and prints nothing, for a profiler
  */
 #include <inttypes.h>
 #include <stdio.h>
@@ -75,6 +77,30 @@ static int count_all(void)
     return 0;
 }
 
+/* The place of a name in a list, or its length. */
+static int named(const char *name, const char *const *names, int length)
+{
+    int i = 0;
+    while (i < length && strcmp(name, names[i]) != 0)
+        i++;
+    return i;
+}
+
+static int repeat_one(char **words)
+{
+    int side = named(words[0], side_names, SIDES), operation = named(words[1], operation_names, OPERATIONS);
+    int shape = named(words[2], shape_names, SHAPES);
+    if (side == SIDES || operation == OPERATIONS || shape == SHAPES) {
+        fprintf(stderr, "benchmark: no such side, operation or shape\n");
+        return 2;
+    }
+    make_input((enum shape)shape, 512, &input);
+    lend(&lent);
+    for (unsigned long i = strtoul(words[3], NULL, 10); i > 0; i--)
+        measured((enum side)side, (enum operation)operation, &input, &lent);
+    return 0;
+}
+
 int main(int argc, char **argv)
 {
     if (argc == 3 && strcmp(argv[1], "agree") == 0)
@@ -85,6 +111,8 @@ int main(int argc, char **argv)
         return time_all(strtod(argv[2], NULL));
     if (argc == 2 && strcmp(argv[1], "count") == 0)
         return count_all();
-    fprintf(stderr, "usage: bench agree ROUNDS | facts | time SECONDS | count\n");
+    if (argc == 6 && strcmp(argv[1], "one") == 0)
+        return repeat_one(argv + 2);
+    fprintf(stderr, "usage: benchmark agree ROUNDS | facts | time SECONDS | count | one SIDE OPERATION SHAPE REPEATS\n");
     return 2;
 }

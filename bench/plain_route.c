@@ -25,9 +25,10 @@ static inline void put(struct pen *pen, uint32_t kind, uint32_t line, uint32_t f
 /* The trunk of net n on track k from its first to its last column, then the branch and the contact of each pin column. */
 static void draw_span(struct pen *pen, uint32_t n, uint32_t k, uint32_t first, uint32_t last)
 {
+    const uint32_t *tops = pen->rows->top, *bots = pen->rows->bot;
     put(pen, PLAIN_TRUNK, k, first, last);
     for (uint32_t c = first; c <= last; c++) {
-        bool top = pen->rows->top[c - 1] == n, bot = pen->rows->bot[c - 1] == n;
+        bool top = tops[c - 1] == n, bot = bots[c - 1] == n;
         if (top || bot) {
             put(pen, PLAIN_BRANCH, c, bot ? 0 : k, top ? pen->t + 1 : k);
             put(pen, PLAIN_CONTACT, c, k, k);
