@@ -5,7 +5,7 @@
 #include <stdlib.h>
 #include <time.h>
 
-enum { FEWEST = 9, MOST = 301 };
+enum { FEWEST = 5, MOST = 1001 };
 
 /* Long enough that reading the clock does not count. */
 static const double BATCH_SECONDS = 200e-6;

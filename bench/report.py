@@ -1,9 +1,13 @@
-"""Runs the measuring program and prints its numbers as text: `python3 bench/report.py PROGRAM COMPILER [--quick]`.
+"""Runs the measuring programs and prints their numbers as text: `python3 bench/report.py FOLDER COMPILER [--quick]`.
+
+The folder has one program four times, with its code in other places; a time is the mean of their medians, so that where the linker happens to put a
+loop is no part of the comparison.
 
 The exit status is 0 if both sides agree, whatever the times are; 1 if they differ.
 """
 import math
 import shutil
+import statistics
 import subprocess
 import sys
 import tempfile
@@ -35,10 +39,13 @@ def processor():
     return "a processor that does not say its name"
 
 
-def times_of(program, seconds):
+def times_of(programs, seconds):
     """Nanoseconds of both sides, by operation, shape and columns."""
-    return {(operation, shape, int(columns)): (float(rattle), float(plain))
-            for operation, shape, columns, rattle, plain in lines_of("TIME", [program, "time", str(seconds)])}
+    medians = {}
+    for program in programs:
+        for operation, shape, columns, rattle, plain in lines_of("TIME", [program, "time", str(seconds)]):
+            medians.setdefault((operation, shape, int(columns)), []).append((float(rattle), float(plain)))
+    return {key: tuple(map(statistics.fmean, zip(*pairs))) for key, pairs in medians.items()}
 
 
 def counts_of(program):
@@ -118,16 +125,16 @@ def print_goals(times, counts):
         print(f"{operation} under {goal} ms: {verdict}: at most {spell(longest)}, of {LABELS[shape]}")
 
 
-def main(program, compiler, quick):
-    print(f"Rattle's library and plain C11 ({compiler}, -O2) on {processor()}; processor time, medians, by turns.\n", flush=True)
-    agreed = subprocess.run([program, "agree", "1000" if quick else "5000"], check=False).returncode == 0
-    if not agreed:
+def main(folder, compiler, quick):
+    programs = sorted(folder.glob("measure-*"))
+    print(f"Rattle's library and plain C11 ({compiler}, -O2) on {processor()}: processor time, medians, the sides by turns.\n", flush=True)
+    if subprocess.run([programs[0], "agree", "1000" if quick else "5000"], check=False).returncode != 0:
         print("The two sides differ; nothing is measured.")
         return 1
     print()
-    print_inputs(program)
-    times = times_of(program, 0.05 if quick else 1)
-    counts = counts_of(program)
+    print_inputs(programs[0])
+    times = times_of(programs, 0.02 if quick else 0.15)
+    counts = counts_of(programs[0])
     print_times(times, counts)
     print_growth(times)
     print_goals(times, counts)
@@ -135,4 +142,4 @@ def main(program, compiler, quick):
 
 
 if __name__ == "__main__":
-    sys.exit(main(sys.argv[1], sys.argv[2], "--quick" in sys.argv[3:]))
+    sys.exit(main(Path(sys.argv[1]), sys.argv[2], "--quick" in sys.argv[3:]))
