@@ -1,9 +1,12 @@
 /* The measuring program that ./bench runs and whose lines bench/report.py reads.
  *
  *   agree ROUNDS     compares both sides; the exit status is 1 if they differ
- *   facts            INPUT shape columns pieces bounds route: the size of each input and the library's answers, number and value
- *   time SECONDS     TIME operation shape columns nanoseconds of Rattle and of C, about so many seconds each
- *   count            COUNT operation shape side, in the order of the calls of `measured`: one call each, for valgrind to count
+ *   facts            INPUT shape columns pieces bounds route: the size of each input and what the library answers,
+ *                    number and value
+ *   time SECONDS     TIME operation shape columns nanoseconds of Rattle and of C, about so many seconds each; then
+ *                    GROWTH, with the same fields, on 64 to 512 columns
+ *   count            COUNT operation shape side, in the order of the calls of `measured`: one call each, for
+ *                    valgrind to count
  *   one SIDE OPERATION SHAPE REPEATS
  *                    calls one operation and prints nothing, for a profiler
  */
@@ -37,27 +40,39 @@ static int facts(void)
     return 0;
 }
 
-static void time_one(enum operation operation, enum shape shape, size_t width, double seconds)
+static void print_time(const char *word, enum operation operation, enum shape shape, size_t columns,
+                       const double medians[SIDES])
 {
-    double medians[SIDES];
-    make_input(shape, width, &input);
-    measure(operation, &input, seconds, medians);
-    printf("TIME %s %s %zu %.1f %.1f\n", operation_names[operation], shape_names[shape], input.top_length, medians[RATTLE],
+    printf("%s %s %s %zu %.1f %.1f\n", word, operation_names[operation], shape_names[shape], columns, medians[RATTLE],
            medians[PLAIN_C]);
-    fflush(stdout);
+}
+
+/* Times an operation on four widths by turns. */
+static void time_growth(enum operation operation, enum shape shape, double seconds)
+{
+    static struct input inputs[SERIES];
+    double medians[SERIES][SIDES];
+    for (size_t k = 0; k < SERIES; k++)
+        make_input(shape, (size_t)64 << k, &inputs[k]);
+    measure(operation, inputs, SERIES, seconds, medians);
+    for (size_t k = 0; k < SERIES; k++)
+        print_time("GROWTH", operation, shape, inputs[k].top_length, medians[k]);
 }
 
 static int time_all(double seconds)
 {
     for (enum operation operation = 0; operation < OPERATIONS; operation++)
         for (enum shape shape = 0; shape < SHAPES; shape++)
-            if (measured_on(operation, shape))
-                time_one(operation, shape, 512, seconds);
-    for (enum operation operation = BOUNDS; operation < OPERATIONS; operation++)
-        for (size_t width = 64; width < 512; width *= 2) {
-            time_one(operation, DENSE, width, seconds);
-            time_one(operation, FULLEST, width, seconds);
-        }
+            if (measured_on(operation, shape)) {
+                double medians[1][SIDES];
+                make_input(shape, 512, &input);
+                measure(operation, &input, 1, seconds, medians);
+                print_time("TIME", operation, shape, input.top_length, medians[0]);
+            }
+    for (enum operation operation = BOUNDS; operation < OPERATIONS; operation++) {
+        time_growth(operation, DENSE, SERIES * seconds);
+        time_growth(operation, FULLEST, SERIES * seconds);
+    }
     return 0;
 }
 
@@ -91,7 +106,7 @@ static int repeat_one(char **words)
     int side = named(words[0], side_names, SIDES), operation = named(words[1], operation_names, OPERATIONS);
     int shape = named(words[2], shape_names, SHAPES);
     if (side == SIDES || operation == OPERATIONS || shape == SHAPES) {
-        fprintf(stderr, "benchmark: no such side, operation or shape\n");
+        fprintf(stderr, "measure: no such side, operation or shape\n");
         return 2;
     }
     make_input((enum shape)shape, 512, &input);
@@ -113,6 +128,6 @@ int main(int argc, char **argv)
         return count_all();
     if (argc == 6 && strcmp(argv[1], "one") == 0)
         return repeat_one(argv + 2);
-    fprintf(stderr, "usage: benchmark agree ROUNDS | facts | time SECONDS | count | one SIDE OPERATION SHAPE REPEATS\n");
+    fprintf(stderr, "usage: measure agree ROUNDS | facts | time SECONDS | count | one SIDE OPERATION SHAPE REPEATS\n");
     return 2;
 }

@@ -42,22 +42,34 @@ static int rising(const void *a, const void *b)
     return (x > y) - (x < y);
 }
 
-void measure(enum operation operation, const struct input *input, double seconds, double medians[SIDES])
+/* How many calls make a batch; *once gets the seconds that it takes. */
+static size_t batch_size(enum operation operation, const struct input *input, double *once)
 {
-    double times[SIDES][MOST];
     size_t repeats = 1;
-    double once = batch(PLAIN_C, operation, input, repeats);
-    while (once < BATCH_SECONDS) {
+    while ((*once = batch(PLAIN_C, operation, input, repeats)) < BATCH_SECONDS)
         repeats *= 2;
-        once = batch(PLAIN_C, operation, input, repeats);
+    return repeats;
+}
+
+void measure(enum operation operation, const struct input *inputs, size_t count, double seconds,
+             double medians[][SIDES])
+{
+    static double times[SERIES][SIDES][MOST];
+    size_t repeats[SERIES];
+    double turn = 0, once;
+    for (size_t k = 0; k < count; k++) {
+        repeats[k] = batch_size(operation, &inputs[k], &once);
+        turn += SIDES * once;
     }
-    double wanted = seconds / (2 * once);
+    double wanted = seconds / turn;
     size_t rounds = wanted < FEWEST ? FEWEST : wanted > MOST ? MOST : (size_t)wanted;
     for (size_t i = 0; i < rounds; i++)
-        for (enum side side = 0; side < SIDES; side++)
-            times[side][i] = batch(side, operation, input, repeats);
-    for (enum side side = 0; side < SIDES; side++) {
-        qsort(times[side], rounds, sizeof(double), rising);
-        medians[side] = times[side][rounds / 2] / (double)repeats * 1e9;
-    }
+        for (size_t k = 0; k < count; k++)
+            for (enum side side = 0; side < SIDES; side++)
+                times[k][side][i] = batch(side, operation, &inputs[k], repeats[k]);
+    for (size_t k = 0; k < count; k++)
+        for (enum side side = 0; side < SIDES; side++) {
+            qsort(times[k][side], rounds, sizeof(double), rising);
+            medians[k][side] = times[k][side][rounds / 2] / (double)repeats[k] * 1e9;
+        }
 }

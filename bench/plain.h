@@ -1,7 +1,7 @@
-/* plain.h: the channel in plain C11: the entries of screen/channel.h under other names, with the same answers and refusals.
+/* plain.h: the channel in plain C11: the entries of screen/channel.h under other names, with the same answers.
  *
- * The algorithms, tables and loops are those of the Rattle code, so that a difference in speed is one of the language and its compiler. Nothing here
- * is proved; ./bench compares its answers with the library's before it measures. */
+ * The algorithms, tables and loops are those of the Rattle code, so that a difference in speed is one of the language
+ * and its compiler. Nothing here is proved; ./benchmark compares its answers with the library's before it measures. */
 #ifndef PLAIN_H
 #define PLAIN_H
 
@@ -63,7 +63,7 @@ uint64_t plain_check(const uint32_t *top, size_t top_length, const uint32_t *bot
 
 void plain_find_spans(const struct plain_rows *rows, struct plain_spans *spans);
 
-/* The nets with spans that start in the column of index i, lower number first; answers how many there are, at most two. */
+/* The nets with spans that start in the column of index i, lower number first; answers how many there are, 0 to 2. */
 static inline int plain_starting(const struct plain_rows *rows, const struct plain_spans *spans, size_t i,
                                  uint32_t starting[2])
 {
@@ -79,8 +79,8 @@ static inline int plain_starting(const struct plain_rows *rows, const struct pla
     return one || two;
 }
 
-/* Fills the tracks: the track of each net by its number in `tracks`, which is zeroed first. Answers the number of tracks; or, where the channel is
- * tangled, minus the number of pairs put at the front of `ring`. */
+/* Fills the tracks: the track of each net by its number in `tracks`, which is zeroed first. Answers the number of
+ * tracks; or, where the channel is tangled, minus the number of pairs put at the front of `ring`. */
 int plain_fill(const struct plain_rows *rows, const struct plain_spans *spans, uint32_t tracks[PLAIN_NETS],
                uint32_t *ring);
 

@@ -36,7 +36,8 @@ static void deeper(const struct plain_rows *rows, const uint32_t old[PLAIN_NETS]
     }
 }
 
-/* The chain, 0 where the channel is tangled: with n nets, a path that n + 1 rounds find longer than n nets returns to its start. */
+/* The chain, 0 where the channel is tangled: with n nets, a path that n + 1 rounds find longer than n nets returns to
+ * its start. */
 static uint32_t longest_chain(const struct plain_rows *rows, const struct plain_spans *spans)
 {
     uint32_t depths[2][PLAIN_NETS] = {{0}};

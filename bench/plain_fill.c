@@ -27,7 +27,8 @@ static void mark_blocked(const struct plain_rows *rows, const uint32_t tracks[PL
     }
 }
 
-/* One scan of the nets left for track k: those placed get the track, the others move to the front. Answers how many are left. */
+/* One scan of the nets left for track k: those placed get the track, the others move to the front. Answers how many
+ * are left. */
 static size_t scan_track(const struct plain_spans *spans, const uint32_t marks[PLAIN_NETS], uint32_t left[PLAIN_NETS],
                          size_t count, uint32_t tracks[PLAIN_NETS], uint32_t k)
 {
@@ -65,7 +66,8 @@ static uint32_t lowest_net(const uint32_t left[PLAIN_NETS], size_t count)
     return least;
 }
 
-/* Walks down from the lowest net left until a net is met again; the ring's pairs go to the front of `ring`. Answers their number. */
+/* Walks down from the lowest net left until a net is met again; the ring's pairs go to the front of `ring`. Answers
+ * their number. */
 static int show_ring(const struct plain_rows *rows, const uint32_t tracks[PLAIN_NETS], const uint32_t left[PLAIN_NETS],
                      size_t count, uint32_t *ring)
 {

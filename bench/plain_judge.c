@@ -1,4 +1,4 @@
-/* The judge: the classes of joined pins and pieces, marked in one number for each, and the faults read off the marks. */
+/* The judge: classes of joined pins and pieces, marked in one number for each, and the faults read off the marks. */
 #include "plain.h"
 
 /* The box of grid points that a piece covers. */
@@ -30,7 +30,7 @@ static void relabel(uint32_t *marks, size_t n, uint32_t old, uint32_t new)
             marks[i] = new;
 }
 
-/* The new element, of mark m or 0 if it has touched none so far, touches element i of the first n: answers its mark then. */
+/* The new element, of mark m or 0 if it has touched none so far, touches element i of the first n: its mark then. */
 static inline uint32_t join(uint32_t *marks, size_t n, size_t i, uint32_t m)
 {
     if (m == 0)
@@ -40,8 +40,10 @@ static inline uint32_t join(uint32_t *marks, size_t n, size_t i, uint32_t m)
     return m;
 }
 
-/* The mark of a new piece from the pins that it touches: only a branch touches pins, those of its column at its ends. */
-static uint32_t join_pins(const struct plain_rows *rows, uint32_t tracks, const struct cover *c, uint32_t *marks, size_t n)
+/* The mark of a new piece from the pins that it touches: only a branch touches pins, those of its column at its
+ * ends. */
+static uint32_t join_pins(const struct plain_rows *rows, uint32_t tracks, const struct cover *c, uint32_t *marks,
+                          size_t n)
 {
     uint32_t m = 0;
     if (c->kind != PLAIN_BRANCH)

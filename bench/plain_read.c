@@ -33,8 +33,8 @@ static bool read_number(const struct text *text, size_t *at, uint32_t *value)
     return true;
 }
 
-/* Reads a line that begins at *at and moves *at behind it, or to the byte that does not belong. Answers whether the line is whole; *count gets how
- * many numbers it has, of which the row keeps the first 512. */
+/* Reads a line that begins at *at and moves *at behind it, or to the byte that does not belong. Answers whether the
+ * line is whole; *count gets how many numbers it has, of which the row keeps the first 512. */
 static bool read_line(const struct text *text, size_t *at, const char *word, uint32_t row[PLAIN_COLUMNS], size_t *count)
 {
     for (size_t i = 0; i < 4; i++, ++*at)

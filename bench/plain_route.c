@@ -22,7 +22,7 @@ static inline void put(struct pen *pen, uint32_t kind, uint32_t line, uint32_t f
     pen->at += 4;
 }
 
-/* The trunk of net n on track k from its first to its last column, then the branch and the contact of each pin column. */
+/* The trunk of net n on track k from its first to its last column, then branch and contact of each pin column. */
 static void draw_span(struct pen *pen, uint32_t n, uint32_t k, uint32_t first, uint32_t last)
 {
     const uint32_t *tops = pen->rows->top, *bots = pen->rows->bot;

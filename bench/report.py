@@ -1,9 +1,8 @@
 """Runs the measuring programs and prints their numbers as text: `python3 bench/report.py FOLDER COMPILER [--quick]`.
 
-The folder has one program four times, with its code in other places; a time is the mean of their medians, so that where the linker happens to put a
-loop is no part of the comparison.
-
-The exit status is 0 if both sides agree, whatever the times are; 1 if they differ.
+The folder has one program four times, with its code in other places; a time is the mean of their medians, so that
+where the linker happens to put a loop counts for less. The exit status is 0 if both sides agree, whatever the times
+are; 1 if they differ.
 """
 import math
 import shutil
@@ -13,23 +12,28 @@ import sys
 import tempfile
 from pathlib import Path
 
-RATIO_GOAL, ROUTE_GOAL_MS, JUDGE_GOAL_MS = 1.10, 2, 60
+RATIO_GOAL = 1.10
+TIME_GOALS_MS = {"route": 2, "judge": 60}
 WIDTHS = (64, 128, 256, 512)
-LABELS = {
-    "example-B": "example B",
-    "dense": "256 nets nested",
-    "chain": "chain of 511 nets",
-    "fullest": "chain, no place free",
-    "ring": "ring of 511 nets",
-    "file-4095": "4,095 pieces",
-    "file-4095-mixed": "4,095 pieces, mixed",
+SHAPES = {  # the name and what it is
+    "example-B": ("example B", "the paper's"),
+    "dense": ("density 256", "256 nets, one inside the other, no two in a column"),
+    "chain": ("chain of 511", "511 nets, each above the next"),
+    "fullest": ("fullest channel", "the chain with a pin in every place: no router's board has more pieces"),
+    "ring": ("ring of 511", "511 nets, each above the next and the last above the first"),
+    "file-4095": ("4,095 pieces", "the fullest channel's pieces, repeated up to what a file holds"),
+    "file-4095-mixed": ("4,095 pieces, mixed", "the same in random order"),
 }
 
 
-def lines_of(word, command, **options):
-    """The fields of the lines of a program's output that begin with a word."""
+def name(shape):
+    return SHAPES[shape][0]
+
+
+def lines_of(command, **options):
+    """The fields of the lines of a program's output."""
     output = subprocess.run(command, stdout=subprocess.PIPE, check=True, text=True, **options).stdout
-    return [line.split()[1:] for line in output.splitlines() if line.startswith(word + " ")]
+    return [line.split() for line in output.splitlines()]
 
 
 def processor():
@@ -40,24 +44,35 @@ def processor():
 
 
 def times_of(programs, seconds):
-    """Nanoseconds of both sides, by operation, shape and columns."""
-    medians = {}
+    """Nanoseconds of both sides, by operation and shape; and the growth, by operation, shape and columns."""
+    medians, growth = {}, {}
     for program in programs:
-        for operation, shape, columns, rattle, plain in lines_of("TIME", [program, "time", str(seconds)]):
-            medians.setdefault((operation, shape, int(columns)), []).append((float(rattle), float(plain)))
-    return {key: tuple(map(statistics.fmean, zip(*pairs))) for key, pairs in medians.items()}
+        for word, operation, shape, columns, rattle, plain in lines_of([program, "time", str(seconds)]):
+            pair = float(rattle), float(plain)
+            if word == "TIME":
+                medians.setdefault((operation, shape), []).append(pair)
+            else:
+                growth.setdefault((operation, shape, int(columns)), []).append(pair)
+    return means(medians), means(growth)
+
+
+def means(pairs):
+    return {key: tuple(map(statistics.fmean, zip(*some))) for key, some in pairs.items()}
 
 
 def counts_of(program):
-    """Instructions of one call, by operation, shape and side; none without valgrind."""
+    """Instructions of one call on both sides, by operation and shape; none without valgrind."""
     if shutil.which("valgrind") is None:
         print("valgrind is missing: no instructions are counted.\n")
         return {}
+    counts = {}
     with tempfile.TemporaryDirectory() as folder:
         command = ["valgrind", "--tool=callgrind", "--toggle-collect=measured", "--dump-after=measured",
                    f"--callgrind-out-file={folder}/part", program, "count"]
-        calls = lines_of("COUNT", command, stderr=subprocess.DEVNULL)
-        return {tuple(call): instructions_in(Path(folder, f"part.{i}")) for i, call in enumerate(calls, 1)}
+        calls = lines_of(command, stderr=subprocess.DEVNULL)
+        for i, (_, operation, shape, _) in enumerate(calls, 1):  # Rattle's call comes first, then C's
+            counts.setdefault((operation, shape), []).append(instructions_in(Path(folder, f"part.{i}")))
+    return counts
 
 
 def instructions_in(part):
@@ -73,70 +88,80 @@ def spell(nanoseconds):
             return f"{nanoseconds / scale:.3g} {unit}"
 
 
+def print_row(*fields):
+    print("| " + " | ".join(map(str, fields)) + " |")
+
+
 def print_inputs(program):
-    print("| Input | Columns | Pieces | Density | Chain | Router's answer |\n|---|---:|---:|---:|---:|---|")
-    for shape, columns, pieces, _, bounds, number, value in lines_of("INPUT", [program, "facts"]):
+    print_row("Input", "What it is", "Columns", "Pieces", "Density", "Chain", "The router answers")
+    print("|---|---|---:|---:|---:|---:|---|")
+    for _, shape, columns, pieces, _, bounds, number, value in lines_of([program, "facts"]):
+        density, chain = divmod(int(bounds), 65536)
         answer = f"{int(value) % 65536} tracks" if number == "0" else f"{number}, {value} pairs"
-        print(f"| {LABELS[shape]} | {columns} | {int(pieces):,} | {int(bounds) // 65536} | {int(bounds) % 65536} | {answer} |")
+        print_row(*SHAPES[shape], columns, f"{int(pieces):,}", density, chain, answer)
     print()
 
 
 def print_times(times, counts):
-    print("| Operation | Input | Rattle | C | Ratio | Instructions, Rattle | C | Ratio |\n|---|---|---:|---:|---:|---:|---:|---:|")
-    for (operation, shape, columns), (rattle, plain) in times.items():
-        if columns in WIDTHS[:-1]:
-            continue
-        row = f"| {operation} | {LABELS[shape]} | {spell(rattle)} | {spell(plain)} | {rattle / plain:.2f} |"
-        a, b = (counts.get((operation, shape, side)) for side in ("rattle", "c"))
-        print(row + (f" {a:,} | {b:,} | {a / b:.2f} |" if a else " | | |"))
+    print_row("Operation", "Input", "Rattle", "C", "Ratio", "Instructions, Rattle", "C", "Ratio")
+    print("|---|---|---:|---:|---:|---:|---:|---:|")
+    for (operation, shape), (rattle, plain) in times.items():
+        fields = [operation, name(shape), spell(rattle), spell(plain), f"{rattle / plain:.2f}", "", "", ""]
+        if (operation, shape) in counts:
+            a, b = counts[operation, shape]
+            fields[5:] = f"{a:,}", f"{b:,}", f"{a / b:.2f}"
+        print_row(*fields)
     print()
 
 
 def exponent(values):
     """The slope of the logarithms over doublings of the width, by least squares."""
-    logs = [math.log2(v) for v in values]
-    middle = (len(logs) - 1) / 2
-    return sum((i - middle) * y for i, y in enumerate(logs)) / sum((i - middle) ** 2 for i in range(len(logs)))
+    middle = (len(values) - 1) / 2
+    rise = sum((i - middle) * math.log2(v) for i, v in enumerate(values))
+    return rise / sum((i - middle) ** 2 for i in range(len(values)))
 
 
-def print_growth(times):
-    print("| Operation | Input | Side | " + " | ".join(map(str, WIDTHS)) + " | Exponent |\n|---|---|---|" + "---:|" * 5)
+def print_growth(growth):
+    print_row("Operation", "Input", "Side", *WIDTHS, "Exponent")
+    print("|---|---|---|" + "---:|" * (len(WIDTHS) + 1))
     for operation in ("bounds", "route", "judge"):
-        for shape, label in (("dense", "nested nets"), ("fullest", "chain, no place free")):
-            for side, name in enumerate(("Rattle", "C")):
-                values = [times[operation, shape, width][side] for width in WIDTHS]
-                print(f"| {operation} | {label} | {name} | " + " | ".join(map(spell, values)) + f" | {exponent(values):.2f} |")
+        for shape, label in (("dense", "nested nets"), ("fullest", "fullest channel")):
+            for side, who in enumerate(("Rattle", "C")):
+                values = [growth[operation, shape, width][side] for width in WIDTHS]
+                print_row(operation, label, who, *map(spell, values), f"{exponent(values):.2f}")
     print()
 
 
+def print_ratio_goal(what, pairs):
+    over = [f"{operation} of {name(shape)} {rattle / plain:.2f}"
+            for (operation, shape), (rattle, plain) in pairs.items() if rattle / plain > RATIO_GOAL]
+    verdict = "does not hold: " + "; ".join(over) if over else "holds"
+    print(f"- {what} at most {RATIO_GOAL:.2f} of C's everywhere: {verdict}")
+
+
 def print_goals(times, counts):
-    over = [f"{operation} of {LABELS[shape]} {rattle / plain:.2f}"
-            for (operation, shape, columns), (rattle, plain) in times.items()
-            if columns not in WIDTHS[:-1] and rattle / plain > RATIO_GOAL]
-    print(f"Time at most {RATIO_GOAL:.2f} of C's everywhere: " + ("holds" if not over else "does not hold: " + ", ".join(over)))
+    print_ratio_goal("Time", times)
     if counts:
-        more = [f"{operation} of {LABELS[shape]} {n / counts[operation, shape, 'c']:.2f}"
-                for (operation, shape, side), n in counts.items()
-                if side == "rattle" and n / counts[operation, shape, "c"] > RATIO_GOAL]
-        print(f"Instructions at most {RATIO_GOAL:.2f} of C's everywhere: " + ("holds" if not more else "does not hold: " + ", ".join(more)))
-    for operation, goal in (("route", ROUTE_GOAL_MS), ("judge", JUDGE_GOAL_MS)):
-        (_, shape, _), (longest, _) = max(((k, v) for k, v in times.items() if k[0] == operation), key=lambda item: item[1][0])
+        print_ratio_goal("Instructions", counts)
+    for operation, goal in TIME_GOALS_MS.items():
+        longest, shape = max((rattle, shape) for (asked, shape), (rattle, _) in times.items() if asked == operation)
         verdict = "holds" if longest < goal * 1e6 else "does not hold"
-        print(f"{operation} under {goal} ms: {verdict}: at most {spell(longest)}, of {LABELS[shape]}")
+        print(f"- {operation} under {goal} ms: {verdict}: at most {spell(longest)}, of {name(shape)}")
 
 
 def main(folder, compiler, quick):
     programs = sorted(folder.glob("measure-*"))
-    print(f"Rattle's library and plain C11 ({compiler}, -O2) on {processor()}: processor time, medians, the sides by turns.\n", flush=True)
+    print(f"Rattle's library and plain C11 ({compiler}, -O2) on {processor()}: processor time, medians, the sides by "
+          "turns.\n", flush=True)
     if subprocess.run([programs[0], "agree", "1000" if quick else "5000"], check=False).returncode != 0:
         print("The two sides differ; nothing is measured.")
         return 1
     print()
     print_inputs(programs[0])
-    times = times_of(programs, 0.02 if quick else 0.15)
+    times, growth = times_of(programs, 0.02 if quick else 0.2)
     counts = counts_of(programs[0])
     print_times(times, counts)
-    print_growth(times)
+    print_growth(growth)
     print_goals(times, counts)
     return 0
 

@@ -1,5 +1,5 @@
-/* Room that moves the code linked behind it by SHIFT bytes: how fast a loop runs depends on where its jumps lie within 32 or 64 bytes, and
-   functions start at any multiple of 16. */
+/* Room that moves the code linked behind it by SHIFT bytes. How fast a loop runs depends on where its jumps lie within
+   32 bytes, and functions start at any multiple of 16. */
     .text
     .balign 64
     .skip 64 + SHIFT

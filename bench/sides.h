@@ -12,7 +12,8 @@ enum { TEXT_LIMIT = 65536, FILE_LIMIT = 4 + 4 * 4095 };
 
 enum operation { READ, BOUNDS, ROUTE, JUDGE, OPERATIONS };
 
-/* What an operation is given: a pin list as text, the same as rows, a board file. A row may be longer than 512 to be refused. */
+/* What an operation is given: a pin list as text, the same as rows, a board file. Rows over 512 are there to be
+ * refused. */
 struct input {
     uint8_t text[TEXT_LIMIT];
     size_t text_length;
