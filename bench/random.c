@@ -73,30 +73,71 @@ static void spoil_rows(struct input *in)
     }
 }
 
-/* One of many slips in a board file: a bit, a piece's field, a piece more or less, a cut. */
-static void damage_file(struct input *in)
+/* Puts a piece's word in the place of the piece of index i. */
+static void put_piece(struct input *in, uint32_t i, uint32_t kind, uint32_t line, uint32_t from, uint32_t to)
 {
-    uint32_t pieces = (uint32_t)pieces_of(in);
-    if (below(4) == 0) {
-        in->file[below((uint32_t)in->file_length)] ^= (uint8_t)(1u << below(8));
-        return;
+    uint32_t v = kind << 30 | (line & 1023) << 20 | (from & 1023) << 10 | (to & 1023);
+    for (int k = 0; k < 4; k++)
+        in->file[4 + 4 * i + (uint32_t)k] = (uint8_t)(v >> (24 - 8 * k));
+}
+
+/* Moves an end of the piece of index i by one; a contact moves whole. */
+static void nudge_piece(struct input *in, uint32_t i)
+{
+    const uint8_t *at = in->file + 4 + 4 * i;
+    uint32_t v = (uint32_t)at[0] << 24 | (uint32_t)at[1] << 16 | (uint32_t)at[2] << 8 | at[3];
+    uint32_t kind = v >> 30, by = below(2) ? 1 : UINT32_MAX, which = below(2);
+    uint32_t from = v >> 10 & 1023, to = v & 1023;
+    put_piece(in, i, kind, v >> 20 & 1023, from + (which || kind == 2 ? by : 0), to + (!which || kind == 2 ? by : 0));
+}
+
+/* Puts any piece of the grid in the place of the piece of index i. */
+static void replace_piece(struct input *in, uint32_t i)
+{
+    uint32_t width = (uint32_t)in->top_length, tracks = (in->file[1] & 63u) << 3 | in->file[2] >> 5;
+    uint32_t low = below(tracks + 1), first = 1 + below(width), track = 1 + below(tracks + 1);
+    switch (below(3)) {
+    case 0:
+        put_piece(in, i, 0, track, first, first + 1 + below(width));
+        break;
+    case 1:
+        put_piece(in, i, 1, first, low, low + 1 + below(tracks + 1));
+        break;
+    default:
+        put_piece(in, i, 2, first, track, track);
     }
-    if (below(20) == 0) {
-        in->file_length = below((uint32_t)in->file_length + 1);
-        return;
-    }
-    if (pieces < 2)
-        return;
-    uint8_t *a = in->file + 4 + 4 * below(pieces), *b = in->file + 4 * pieces;
-    if (below(2) == 0) {
-        memcpy(a, b, 4);
-        return;
-    }
-    memmove(a, a + 4, (size_t)(b - a));
+}
+
+/* Takes the piece of index i out of the file. */
+static void remove_piece(struct input *in, uint32_t i)
+{
+    uint8_t *at = in->file + 4 + 4 * i;
+    memmove(at, at + 4, in->file_length - 8 - 4 * i);
     in->file_length -= 4;
     uint32_t count = ((in->file[2] & 31u) << 8 | in->file[3]) - 2;
     in->file[2] = (uint8_t)((in->file[2] & 0xE0u) | count >> 8);
     in->file[3] = (uint8_t)count;
+}
+
+/* One of many slips in a board file: a bit, a cut, a piece changed, repeated, replaced or missing. */
+static void damage_file(struct input *in)
+{
+    uint32_t pieces = (uint32_t)pieces_of(in), slip = below(20);
+    if (slip == 0) {
+        in->file_length = below((uint32_t)in->file_length + 1);
+    } else if (slip <= 2) {
+        in->file[below((uint32_t)in->file_length)] ^= (uint8_t)(1u << below(8));
+    } else if (pieces == 0) {
+        return;
+    } else if (slip <= 4) {
+        memmove(in->file + 4 + 4 * below(pieces), in->file + 4 + 4 * below(pieces), 4);
+    } else if (slip <= 8) {
+        remove_piece(in, below(pieces));
+    } else if (slip <= 14) {
+        nudge_piece(in, below(pieces));
+    } else {
+        replace_piece(in, below(pieces));
+    }
 }
 
 void random_input(struct input *in)
@@ -106,7 +147,7 @@ void random_input(struct input *in)
         spoil_rows(in);
     write_text(in);
     draw_file(in);
-    for (uint32_t slips = below(3); slips > 0 && in->file_length >= 4; slips--)
+    for (uint32_t slips = below(3); slips > 0 && in->file_length >= 8; slips--)
         damage_file(in);
 }
 
