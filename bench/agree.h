@@ -1,0 +1,11 @@
+/* agree.h: whether both sides answer alike. */
+#ifndef AGREE_H
+#define AGREE_H
+
+#include <stdbool.h>
+
+/* Compares answers and lent memory on all inputs that are measured and on so many random ones; says what differs,
+ * and how much was compared. */
+bool agree(unsigned long rounds);
+
+#endif

@@ -1,0 +1,113 @@
+/* The channels and boards that are measured. */
+#include "inputs.h"
+
+#include <stdio.h>
+#include <string.h>
+
+#include "text.h"
+
+const char *const shape_names[SHAPES] = {
+    "example-B", "dense", "chain", "fullest", "ring", "file-4095", "file-4095-mixed",
+};
+
+/* Nets one inside the other, no two in a column: the density is half the width. */
+static void make_dense(struct input *in, uint32_t width)
+{
+    for (uint32_t i = 0; i < width; i++)
+        in->top[i] = i < width / 2 ? i + 1 : width - i;
+}
+
+/* Net k above net k + 1 in column k + 1: width - 1 nets, each on a track of its own. */
+static void make_chain(struct input *in, uint32_t width)
+{
+    for (uint32_t i = 0; i < width; i++) {
+        in->top[i] = i == 0 ? 1 : i + 1 < width ? i : 0;
+        in->bot[i] = i == 0 ? 0 : i + 1 < width ? i + 1 : width - 1;
+    }
+}
+
+/* The chain with its two free places given to its last and its first net: no channel of this width has more pieces. */
+static void make_fullest(struct input *in, uint32_t width)
+{
+    make_chain(in, width);
+    in->bot[0] = width - 1;
+    in->top[width - 1] = 1;
+}
+
+/* Net k above net k + 1 and the last above the first; the last column stays free, since there are 511 nets only. */
+static void make_ring(struct input *in, uint32_t width)
+{
+    for (uint32_t i = 0; i + 1 < width; i++) {
+        in->top[i] = i + 1;
+        in->bot[i] = i + 2 < width ? i + 2 : 1;
+    }
+}
+
+static void make_rows(enum shape shape, size_t width, struct input *in)
+{
+    static const uint32_t top[] = {0, 1, 6, 1, 2, 3, 5}, bot[] = {6, 3, 5, 4, 0, 2, 4};
+    memset(in->top, 0, sizeof in->top);
+    memset(in->bot, 0, sizeof in->bot);
+    in->top_length = in->bot_length = shape == EXAMPLE_B ? 7 : width;
+    switch (shape) {
+    case EXAMPLE_B:
+        memcpy(in->top, top, sizeof top);
+        memcpy(in->bot, bot, sizeof bot);
+        break;
+    case DENSE:
+        make_dense(in, (uint32_t)width);
+        break;
+    case CHAIN:
+        make_chain(in, (uint32_t)width);
+        break;
+    case RINGED:
+        make_ring(in, (uint32_t)width);
+        break;
+    default:
+        make_fullest(in, (uint32_t)width);
+    }
+}
+
+/* Repeats the pieces of a board file until it holds 4,095. */
+static void fill_file(struct input *in)
+{
+    size_t drawn = pieces_of(in);
+    for (size_t i = drawn; i < 4095; i++)
+        memcpy(in->file + 4 + 4 * i, in->file + 4 + 4 * (i - drawn), 4);
+    uint32_t count = 4095u << 1;
+    in->file[2] = (uint8_t)((in->file[2] & 0xE0) | count >> 8);
+    in->file[3] = (uint8_t)count;
+    in->file_length = FILE_LIMIT;
+}
+
+static void shuffle_file(struct input *in)
+{
+    seed(4095);
+    for (uint32_t i = 4094; i > 0; i--) {
+        uint8_t kept[4], *a = in->file + 4 + 4 * i, *b = in->file + 4 + 4 * below(i + 1);
+        memcpy(kept, a, 4);
+        memcpy(a, b, 4);
+        memcpy(b, kept, 4);
+    }
+}
+
+void make_input(enum shape shape, size_t width, struct input *in)
+{
+    make_rows(shape, width, in);
+    write_text(in);
+    draw_file(in);
+    if (shape >= FULL_FILE)
+        fill_file(in);
+    if (shape == MIXED_FILE)
+        shuffle_file(in);
+}
+
+bool measured_on(enum operation operation, enum shape shape)
+{
+    return operation == JUDGE ? shape != RINGED : shape < FULL_FILE;
+}
+
+size_t pieces_of(const struct input *in)
+{
+    return in->file_length / 4 - 1;
+}

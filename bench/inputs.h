@@ -1,0 +1,37 @@
+/* inputs.h: the channels and boards that are measured, and random ones. */
+#ifndef INPUTS_H
+#define INPUTS_H
+
+#include <stdbool.h>
+
+#include "sides.h"
+
+/* What is measured. The last two are boards alone. */
+enum shape { EXAMPLE_B, DENSE, CHAIN, FULLEST, RINGED, FULL_FILE, MIXED_FILE, SHAPES };
+
+extern const char *const shape_names[SHAPES];
+
+/* Makes an input of a shape on so many columns (example B has its own width). Its file is the board that the router
+ * draws; the shapes that are boards alone repeat the fullest board's pieces up to 4,095, and the mixed one shuffles
+ * them. */
+void make_input(enum shape shape, size_t width, struct input *input);
+
+/* Whether an operation is measured on a shape. */
+bool measured_on(enum operation operation, enum shape shape);
+
+/* The number of pieces of an input's board file. */
+size_t pieces_of(const struct input *input);
+
+/* A number below n, from a seeded row of numbers. */
+uint32_t below(uint32_t n);
+
+void seed(uint64_t state);
+
+/* A random channel with its text, sometimes one that is refused; its board is drawn if it can be routed, and then
+ * damaged more often than not. */
+void random_input(struct input *input);
+
+/* Changes or cuts the text of an input. */
+void garble(struct input *input);
+
+#endif

@@ -1,0 +1,100 @@
+/* plain.h: the channel in plain C11: the entries of screen/channel.h under other names, with the same answers.
+ *
+ * The algorithms, tables and loops are those of the Rattle code, so that a difference in speed is one of the language
+ * and its compiler. Nothing here is proved; ./benchmark compares its answers with the library's before it measures. */
+#ifndef PLAIN_H
+#define PLAIN_H
+
+#include <stdbool.h>
+#include <stddef.h>
+#include <stdint.h>
+
+/* Nets are 1 to 511, so that a table by net number has 512 places; a row has at most 512 columns. */
+enum {
+    PLAIN_NETS = 512,
+    PLAIN_COLUMNS = 512,
+    PLAIN_RING = 1022,
+    PLAIN_BOARD = 10240,
+    PLAIN_SCRATCH = 10238,
+    PLAIN_PIECES = 4095
+};
+
+uint64_t plain_read(const uint8_t *text, size_t text_length, uint32_t *top, size_t top_length, uint32_t *bot,
+                    size_t bot_length);
+
+uint64_t plain_bounds(const uint32_t *top, size_t top_length, const uint32_t *bot, size_t bot_length);
+
+uint64_t plain_route(const uint32_t *top, size_t top_length, const uint32_t *bot, size_t bot_length, uint32_t *ring,
+                     size_t ring_length, uint8_t *board, size_t board_length);
+
+uint64_t plain_judge(const uint32_t *top, size_t top_length, const uint32_t *bot, size_t bot_length,
+                     const uint8_t *board, size_t board_length, uint32_t *scratch, size_t scratch_length);
+
+/* What the parts of the plain version share. */
+
+/* A refusal or fault and its place, in one number. */
+static inline uint64_t plain_refused(uint32_t number, size_t place)
+{
+    uint64_t shown = place > UINT32_MAX ? UINT32_MAX : place;
+    return (uint64_t)number << 32 | shown;
+}
+
+/* Two rows of one width that escape refusals 3 to 6. */
+struct plain_rows {
+    const uint32_t *top, *bot;
+    size_t width;
+};
+
+/* The first and the last pin column of each net by its number; 0 where a number has no pin. */
+struct plain_spans {
+    uint32_t first[PLAIN_NETS], last[PLAIN_NETS];
+};
+
+/* The kinds of pieces, as the board file numbers them. */
+enum { PLAIN_TRUNK, PLAIN_BRANCH, PLAIN_CONTACT };
+
+/* What a board file's header says. */
+struct plain_header {
+    uint32_t width, tracks, count;
+};
+
+/* 0, or the first of refusals 3 to 6 that applies to two rows of any lengths and numbers. */
+uint64_t plain_check(const uint32_t *top, size_t top_length, const uint32_t *bot, size_t bot_length);
+
+void plain_find_spans(const struct plain_rows *rows, struct plain_spans *spans);
+
+/* The nets with spans that start in the column of index i, lower number first; answers how many there are, 0 to 2. */
+static inline int plain_starting(const struct plain_rows *rows, const struct plain_spans *spans, size_t i,
+                                 uint32_t starting[2])
+{
+    uint32_t a = rows->top[i], b = rows->bot[i], c = (uint32_t)i + 1;
+    bool one = a != 0 && spans->first[a] == c && c < spans->last[a];
+    bool two = a != b && b != 0 && spans->first[b] == c && c < spans->last[b];
+    if (one && two) {
+        starting[0] = a < b ? a : b;
+        starting[1] = a < b ? b : a;
+        return 2;
+    }
+    starting[0] = one ? a : b;
+    return one || two;
+}
+
+/* Fills the tracks: the track of each net by its number in `tracks`, which is zeroed first. Answers the number of
+ * tracks; or, where the channel is tangled, minus the number of pairs put at the front of `ring`. */
+int plain_fill(const struct plain_rows *rows, const struct plain_spans *spans, uint32_t tracks[PLAIN_NETS],
+               uint32_t *ring);
+
+/* Draws a filled channel of t tracks into a board; answers the number of pieces. */
+uint32_t plain_draw(const struct plain_rows *rows, const struct plain_spans *spans, const uint32_t tracks[PLAIN_NETS],
+                    uint32_t t, uint8_t *board);
+
+/* The 32 bits at a place of a board file, most significant first. */
+static inline uint32_t plain_word(const uint8_t *at)
+{
+    return (uint32_t)at[0] << 24 | (uint32_t)at[1] << 16 | (uint32_t)at[2] << 8 | at[3];
+}
+
+/* Opens a board file of any bytes: 0 and its header, or refusal 8 or 9. */
+uint64_t plain_open(const uint8_t *board, size_t length, struct plain_header *header);
+
+#endif

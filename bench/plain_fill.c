@@ -1,0 +1,107 @@
+/* Filling tracks by the constrained left-edge rule, and the ring that is shown where the fill is stuck. */
+#include <string.h>
+
+#include "plain.h"
+
+/* The nets with spans, in the order of the scan; answers how many there are. */
+static size_t fill_order(const struct plain_rows *rows, const struct plain_spans *spans, uint32_t order[PLAIN_NETS])
+{
+    size_t count = 0;
+    for (size_t i = 0; i < rows->width; i++) {
+        uint32_t starting[2];
+        int here = plain_starting(rows, spans, i, starting);
+        for (int k = 0; k < here; k++)
+            order[count++] = starting[k];
+    }
+    return count;
+}
+
+/* Marks each net that has a net without a track directly below it. */
+static void mark_blocked(const struct plain_rows *rows, const uint32_t tracks[PLAIN_NETS], uint32_t marks[PLAIN_NETS])
+{
+    memset(marks, 0, PLAIN_NETS * sizeof *marks);
+    for (size_t i = 0; i < rows->width; i++) {
+        uint32_t a = rows->top[i], b = rows->bot[i];
+        if (a != 0 && b != 0 && a != b && tracks[b] == 0)
+            marks[a] = 1;
+    }
+}
+
+/* One scan of the nets left for track k: those placed get the track, the others move to the front. Answers how many
+ * are left. */
+static size_t scan_track(const struct plain_spans *spans, const uint32_t marks[PLAIN_NETS], uint32_t left[PLAIN_NETS],
+                         size_t count, uint32_t tracks[PLAIN_NETS], uint32_t k)
+{
+    uint32_t end = 0;
+    size_t rest = 0;
+    for (size_t i = 0; i < count; i++) {
+        uint32_t n = left[i];
+        if (end < spans->first[n] && marks[n] == 0) {
+            tracks[n] = k;
+            end = spans->last[n];
+        } else {
+            left[rest++] = n;
+        }
+    }
+    return rest;
+}
+
+/* For each net its lowest column that has a net without a track below it, 0 if there is none. */
+static void lowest_drops(const struct plain_rows *rows, const uint32_t tracks[PLAIN_NETS], uint32_t columns[PLAIN_NETS])
+{
+    memset(columns, 0, PLAIN_NETS * sizeof *columns);
+    for (size_t i = rows->width; i-- > 0;) {
+        uint32_t a = rows->top[i], b = rows->bot[i];
+        if (a != 0 && b != 0 && a != b && tracks[b] == 0)
+            columns[a] = (uint32_t)i + 1;
+    }
+}
+
+static uint32_t lowest_net(const uint32_t left[PLAIN_NETS], size_t count)
+{
+    uint32_t least = left[0];
+    for (size_t i = 1; i < count; i++)
+        if (left[i] < least)
+            least = left[i];
+    return least;
+}
+
+/* Walks down from the lowest net left until a net is met again; the ring's pairs go to the front of `ring`. Answers
+ * their number. */
+static int show_ring(const struct plain_rows *rows, const uint32_t tracks[PLAIN_NETS], const uint32_t left[PLAIN_NETS],
+                     size_t count, uint32_t *ring)
+{
+    uint32_t columns[PLAIN_NETS], trail[PLAIN_NETS];
+    uint32_t visits[PLAIN_NETS] = {0}; /* 1 plus a net's place in the trail */
+    uint32_t n = lowest_net(left, count), steps = 0;
+    lowest_drops(rows, tracks, columns);
+    while (visits[n] == 0) {
+        trail[steps++] = n;
+        visits[n] = steps;
+        n = rows->bot[columns[n] - 1];
+    }
+    uint32_t from = visits[n] - 1;
+    for (uint32_t i = from; i < steps; i++) {
+        *ring++ = trail[i];
+        *ring++ = columns[trail[i]];
+    }
+    return (int)(steps - from);
+}
+
+int plain_fill(const struct plain_rows *rows, const struct plain_spans *spans, uint32_t tracks[PLAIN_NETS],
+               uint32_t *ring)
+{
+    uint32_t left[PLAIN_NETS], marks[PLAIN_NETS];
+    int done = 0;
+    memset(tracks, 0, PLAIN_NETS * sizeof *tracks);
+    size_t count = fill_order(rows, spans, left);
+    while (count != 0) {
+        mark_blocked(rows, tracks, marks);
+        size_t rest = scan_track(spans, marks, left, count, tracks, (uint32_t)done + 1);
+        if (rest == count)
+            return -show_ring(rows, tracks, left, count, ring);
+        count = rest;
+        done++;
+    }
+    return done;
+}

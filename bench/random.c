@@ -1,0 +1,161 @@
+/* Random channels, boards and texts, from a seeded row of numbers. */
+#include <string.h>
+
+#include "inputs.h"
+#include "text.h"
+
+static uint64_t state;
+
+void seed(uint64_t first)
+{
+    state = first * 0x9E3779B97F4A7C15u + 1;
+}
+
+uint32_t below(uint32_t n)
+{
+    state ^= state << 13;
+    state ^= state >> 7;
+    state ^= state << 17;
+    return (uint32_t)((state >> 32) % n);
+}
+
+/* Takes away the pins of nets with one pin. */
+static void drop_lone(struct input *in)
+{
+    size_t counts[512] = {0};
+    for (size_t i = 0; i < in->top_length; i++) {
+        counts[in->top[i]]++;
+        counts[in->bot[i]]++;
+    }
+    for (size_t i = 0; i < in->top_length; i++) {
+        if (counts[in->top[i]] == 1)
+            in->top[i] = 0;
+        if (counts[in->bot[i]] == 1)
+            in->bot[i] = 0;
+    }
+}
+
+/* Rows of a random width; one in three has no two nets in a column. */
+static void random_rows(struct input *in)
+{
+    uint32_t width = below(20) == 0 ? 1 + below(512) : 1 + below(14);
+    uint32_t nets = 1 + below(width < 511 ? width : 511), full = 1 + below(4);
+    bool unconstrained = below(3) == 0;
+    memset(in->top, 0, sizeof in->top);
+    memset(in->bot, 0, sizeof in->bot);
+    in->top_length = in->bot_length = width;
+    for (uint32_t i = 0; i < width; i++) {
+        in->top[i] = below(4) < full ? 1 + below(nets) : 0;
+        in->bot[i] = unconstrained ? (below(2) ? in->top[i] : 0) : below(4) < full ? 1 + below(nets) : 0;
+    }
+    drop_lone(in);
+}
+
+/* A slip in the rows that is refused. */
+static void spoil_rows(struct input *in)
+{
+    uint32_t i = below((uint32_t)in->top_length);
+    switch (below(5)) {
+    case 0:
+        in->top[i] = 512 + below(9);
+        break;
+    case 1:
+        in->bot[i] = 512 + below(9);
+        break;
+    case 2:
+        in->top[i] = 511;
+        break;
+    case 3:
+        in->bot_length = below(ROW + 8);
+        break;
+    default:
+        in->top_length = below(ROW + 8);
+    }
+}
+
+/* Puts a piece's word in the place of the piece of index i. */
+static void put_piece(struct input *in, uint32_t i, uint32_t kind, uint32_t line, uint32_t from, uint32_t to)
+{
+    uint32_t v = kind << 30 | (line & 1023) << 20 | (from & 1023) << 10 | (to & 1023);
+    for (int k = 0; k < 4; k++)
+        in->file[4 + 4 * i + (uint32_t)k] = (uint8_t)(v >> (24 - 8 * k));
+}
+
+/* Moves an end of the piece of index i by one; a contact moves whole. */
+static void nudge_piece(struct input *in, uint32_t i)
+{
+    const uint8_t *at = in->file + 4 + 4 * i;
+    uint32_t v = (uint32_t)at[0] << 24 | (uint32_t)at[1] << 16 | (uint32_t)at[2] << 8 | at[3];
+    uint32_t kind = v >> 30, by = below(2) ? 1 : UINT32_MAX, which = below(2);
+    uint32_t from = v >> 10 & 1023, to = v & 1023;
+    put_piece(in, i, kind, v >> 20 & 1023, from + (which || kind == 2 ? by : 0), to + (!which || kind == 2 ? by : 0));
+}
+
+/* Puts any piece of the grid in the place of the piece of index i. */
+static void replace_piece(struct input *in, uint32_t i)
+{
+    uint32_t width = (uint32_t)in->top_length, tracks = (in->file[1] & 63u) << 3 | in->file[2] >> 5;
+    uint32_t low = below(tracks + 1), first = 1 + below(width), track = 1 + below(tracks + 1);
+    switch (below(3)) {
+    case 0:
+        put_piece(in, i, 0, track, first, first + 1 + below(width));
+        break;
+    case 1:
+        put_piece(in, i, 1, first, low, low + 1 + below(tracks + 1));
+        break;
+    default:
+        put_piece(in, i, 2, first, track, track);
+    }
+}
+
+/* Takes the piece of index i out of the file. */
+static void remove_piece(struct input *in, uint32_t i)
+{
+    uint8_t *at = in->file + 4 + 4 * i;
+    memmove(at, at + 4, in->file_length - 8 - 4 * i);
+    in->file_length -= 4;
+    uint32_t count = ((in->file[2] & 31u) << 8 | in->file[3]) - 2;
+    in->file[2] = (uint8_t)((in->file[2] & 0xE0u) | count >> 8);
+    in->file[3] = (uint8_t)count;
+}
+
+/* One of many slips in a board file: a bit, a cut, a piece changed, repeated, replaced or missing. */
+static void damage_file(struct input *in)
+{
+    uint32_t pieces = (uint32_t)pieces_of(in), slip = below(20);
+    if (slip == 0) {
+        in->file_length = below((uint32_t)in->file_length + 1);
+    } else if (slip <= 2) {
+        in->file[below((uint32_t)in->file_length)] ^= (uint8_t)(1u << below(8));
+    } else if (pieces == 0) {
+        return;
+    } else if (slip <= 4) {
+        memmove(in->file + 4 + 4 * below(pieces), in->file + 4 + 4 * below(pieces), 4);
+    } else if (slip <= 8) {
+        remove_piece(in, below(pieces));
+    } else if (slip <= 14) {
+        nudge_piece(in, below(pieces));
+    } else {
+        replace_piece(in, below(pieces));
+    }
+}
+
+void random_input(struct input *in)
+{
+    random_rows(in);
+    if (below(8) == 0)
+        spoil_rows(in);
+    write_text(in);
+    draw_file(in);
+    for (uint32_t slips = below(3); slips > 0 && in->file_length >= 8; slips--)
+        damage_file(in);
+}
+
+void garble(struct input *in)
+{
+    static const char likely[] = "TOPBOT 0123456789 \n\n  ";
+    if (below(3) == 0)
+        in->text_length = below((uint32_t)in->text_length + 1);
+    else
+        in->text[below((uint32_t)in->text_length)] = (uint8_t)likely[below(sizeof likely - 1)];
+}

@@ -1,0 +1,45 @@
+/* One call site for each entry of either side. */
+#include "sides.h"
+
+#include <string.h>
+
+#include "channel.h"
+#include "plain.h"
+
+const char *const operation_names[OPERATIONS] = {"read", "bounds", "route", "judge"};
+const char *const side_names[SIDES] = {"rattle", "c"};
+
+static const struct {
+    uint64_t (*read)(const uint8_t *, size_t, uint32_t *, size_t, uint32_t *, size_t);
+    uint64_t (*bounds)(const uint32_t *, size_t, const uint32_t *, size_t);
+    uint64_t (*route)(const uint32_t *, size_t, const uint32_t *, size_t, uint32_t *, size_t, uint8_t *, size_t);
+    uint64_t (*judge)(const uint32_t *, size_t, const uint32_t *, size_t, const uint8_t *, size_t, uint32_t *, size_t);
+} entries[SIDES] = {
+    {cabjirt_read, cabjirt_bounds, cabjirt_route, cabjirt_judge},
+    {plain_read, plain_bounds, plain_route, plain_judge},
+};
+
+void lend(struct lent *lent)
+{
+    memset(lent, 0xA5, sizeof *lent);
+    lent->top_length = lent->bot_length = ROW;
+    lent->ring_length = RING;
+    lent->board_length = BOARD;
+    lent->scratch_length = SCRATCH;
+}
+
+uint64_t call(enum side side, enum operation operation, const struct input *in, struct lent *lent)
+{
+    switch (operation) {
+    case READ:
+        return entries[side].read(in->text, in->text_length, lent->top, lent->top_length, lent->bot, lent->bot_length);
+    case BOUNDS:
+        return entries[side].bounds(in->top, in->top_length, in->bot, in->bot_length);
+    case ROUTE:
+        return entries[side].route(in->top, in->top_length, in->bot, in->bot_length, lent->ring, lent->ring_length,
+                                   lent->board, lent->board_length);
+    default:
+        return entries[side].judge(in->top, in->top_length, in->bot, in->bot_length, in->file, in->file_length,
+                                   lent->scratch, lent->scratch_length);
+    }
+}

@@ -1,0 +1,43 @@
+/* sides.h: the two sides that are compared, the operations, and what an operation is given and lent. */
+#ifndef SIDES_H
+#define SIDES_H
+
+#include <stddef.h>
+#include <stdint.h>
+
+enum { ROW = 512, RING = 1022, BOARD = 10240, SCRATCH = 10238 };
+
+/* The longest text and board file that an input has. */
+enum { TEXT_LIMIT = 65536, FILE_LIMIT = 4 + 4 * 4095 };
+
+enum operation { READ, BOUNDS, ROUTE, JUDGE, OPERATIONS };
+
+/* What an operation is given: a pin list as text, the same as rows, a board file. Rows over 512 are there to be
+ * refused. */
+struct input {
+    uint8_t text[TEXT_LIMIT];
+    size_t text_length;
+    uint32_t top[ROW + 8], bot[ROW + 8];
+    size_t top_length, bot_length;
+    uint8_t file[FILE_LIMIT];
+    size_t file_length;
+};
+
+/* What an operation is lent to write into, and how much of each. */
+struct lent {
+    uint32_t top[ROW], bot[ROW], ring[RING], scratch[SCRATCH];
+    uint8_t board[BOARD];
+    size_t top_length, bot_length, ring_length, board_length, scratch_length;
+};
+
+enum side { RATTLE, PLAIN_C, SIDES };
+
+extern const char *const operation_names[OPERATIONS];
+extern const char *const side_names[SIDES];
+
+/* Fills all that is lent with one pattern, at full lengths. */
+void lend(struct lent *lent);
+
+uint64_t call(enum side side, enum operation operation, const struct input *input, struct lent *lent);
+
+#endif
