@@ -1,23 +1,37 @@
--- `cover_of` meets its contract: each return is the box of the piece of its kind, once the tests of the kind have their values.
-use borrow.Author.Tests.{eq-eqb, ne-eqb}
-use Rattle.grid.specs.Words.{makePiece}
-use Rattle.grid.specs.Pieces.{kindOf, left, right, low, high}
-use Rattle.boardfile.specs.Open.{wordKind, wordLine, wordFrom, wordTo, pieceOf}
-use Rattle.judge.specs.Code.{boxOf}
+-- `cover_of` meets its contract: by the values of the two tests of the kind, each field picked is that of the piece's box. Assumes nothing.
+use borrow.Author.Needs.{needs}
+use mathlib.Core.Path.{sym, _∙_}
+use Rattle.boardfile.specs.Open.{wordKind, wordLine, wordFrom, wordTo}
+use Rattle.judge.specs.BoxLaws.{pickedBox, box-picked}
 use Rattle.judge.proofs.boxes.cover_of.Statement.{statement}
 use Rattle.judge.proofs.boxes.cover_of.Tie as tie
 
+pick-requires : tie.Need-pick-requires
+pick-requires c κs = search needs
+
+pick-requires-2 : tie.Need-pick-requires-2
+pick-requires-2 c κs = search needs
+
+pick-requires-3 : tie.Need-pick-requires-3
+pick-requires-3 c κs = search needs
+
+pick-requires-4 : tie.Need-pick-requires-4
+pick-requires-4 c κs = search needs
+
+pick-requires-5 : tie.Need-pick-requires-5
+pick-requires-5 c κs = search needs
+
+pick-requires-6 : tie.Need-pick-requires-6
+pick-requires-6 c κs = search needs
+
+pick-requires-7 : tie.Need-pick-requires-7
+pick-requires-7 c κs = search needs
+
 returns : tie.Need-returns
-unfolding boxOf pieceOf makePiece wordKind wordLine wordFrom wordTo kindOf left right low high
-returns c = rw (eq-eqb _ _ (c .if1 .taken))
-
-returns-2 : tie.Need-returns-2
-unfolding boxOf pieceOf makePiece wordKind wordLine wordFrom wordTo kindOf left right low high
-returns-2 c = rw (ne-eqb _ _ (c .before .if1 .left), eq-eqb _ _ (c .if2 .taken))
-
-returns-3 : tie.Need-returns-3
-unfolding boxOf pieceOf makePiece wordKind wordLine wordFrom wordTo kindOf left right low high
-returns-3 c = rw (ne-eqb _ _ (c .before .if1 .left), ne-eqb _ _ (c .if2 .left))
+unfolding pickedBox wordKind wordLine wordFrom wordTo
+returns c =
+    let k = c .before .before .before .before .before in
+    rw (c .pick7 .ensures, c .before .pick6 .ensures, c .before .before .pick5 .ensures, c .before .before .before .pick4 .ensures, c .before .before .before .before .pick3 .ensures, k .pick2 .ensures, k .before .pick .ensures) (sym (box-picked (k .before .before .args .v)))
 
 pub cover-of-spec : {M : Type 1} → statement M
-cover-of-spec = tie.close (tie.spec returns returns-2 returns-3)
+cover-of-spec = tie.close (tie.spec pick-requires pick-requires-2 pick-requires-3 pick-requires-4 pick-requires-5 pick-requires-6 pick-requires-7 returns)
