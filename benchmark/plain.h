@@ -1,7 +1,7 @@
 /* plain.h: the channel in plain C11: the entries of screen/channel.h under other names, with the same answers.
  *
  * The algorithms, tables and loops are those of the Rattle code, so that a difference in speed is one of the language
- * and its compiler. Nothing here is proved; ./benchmark compares its answers with the library's before it measures. */
+ * and its compiler. Nothing here is proved; ./bench compares its answers with the library's before it measures. */
 #ifndef PLAIN_H
 #define PLAIN_H
 

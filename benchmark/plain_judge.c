@@ -9,11 +9,14 @@ struct cover {
 static inline struct cover cover_of(uint32_t v)
 {
     uint32_t kind = v >> 30, line = v >> 20 & 1023, from = v >> 10 & 1023, to = v & 1023;
-    if (kind == PLAIN_TRUNK)
-        return (struct cover){PLAIN_TRUNK, from, to, line, line};
-    if (kind == PLAIN_BRANCH)
-        return (struct cover){PLAIN_BRANCH, line, line, from, to};
-    return (struct cover){PLAIN_CONTACT, line, line, from, from};
+    bool trunk = kind == PLAIN_TRUNK, branch = kind == PLAIN_BRANCH;
+    return (struct cover){
+        .kind = trunk ? PLAIN_TRUNK : branch ? PLAIN_BRANCH : PLAIN_CONTACT,
+        .left = trunk ? from : line,
+        .right = trunk ? to : line,
+        .low = trunk ? line : from,
+        .high = trunk ? line : branch ? to : from,
+    };
 }
 
 static inline bool covers_touch(struct cover a, struct cover b)

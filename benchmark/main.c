@@ -1,4 +1,4 @@
-/* The measuring program that ./bench runs and whose lines bench/report.py reads.
+/* The measuring program that ./bench runs and whose lines benchmark/report.py reads.
  *
  *   agree ROUNDS     compares both sides; the exit status is 1 if they differ
  *   facts            INPUT shape columns pieces bounds route: the size of each input and what the library answers,
