@@ -7,7 +7,7 @@
 #include "text.h"
 
 const char *const shape_names[SHAPES] = {
-    "example-B", "dense", "chain", "fullest", "ring", "file-4095", "file-4095-mixed",
+    "example-B", "dense", "chain", "fullest", "ring-255", "ring-511", "file-4095", "file-4095-mixed",
 };
 
 /* Nets one inside the other, no two in a column: the density is half the width. */
@@ -34,12 +34,12 @@ static void make_fullest(struct input *in, uint32_t width)
     in->top[width - 1] = 1;
 }
 
-/* Net k above net k + 1 and the last above the first; the last column stays free, since there are 511 nets only. */
-static void make_ring(struct input *in, uint32_t width)
+/* Net k above net k + 1 and the last above the first; the columns behind them stay free. */
+static void make_ring(struct input *in, uint32_t nets)
 {
-    for (uint32_t i = 0; i + 1 < width; i++) {
+    for (uint32_t i = 0; i < nets; i++) {
         in->top[i] = i + 1;
-        in->bot[i] = i + 2 < width ? i + 2 : 1;
+        in->bot[i] = i + 1 < nets ? i + 2 : 1;
     }
 }
 
@@ -60,8 +60,11 @@ static void make_rows(enum shape shape, size_t width, struct input *in)
     case CHAIN:
         make_chain(in, (uint32_t)width);
         break;
-    case RINGED:
-        make_ring(in, (uint32_t)width);
+    case RING_255:
+        make_ring(in, 255);
+        break;
+    case RING_511:
+        make_ring(in, 511);
         break;
     default:
         make_fullest(in, (uint32_t)width);
@@ -104,7 +107,7 @@ void make_input(enum shape shape, size_t width, struct input *in)
 
 bool measured_on(enum operation operation, enum shape shape)
 {
-    return operation == JUDGE ? shape != RINGED : shape < FULL_FILE;
+    return operation == JUDGE ? shape < RING_255 || shape >= FULL_FILE : shape < FULL_FILE;
 }
 
 size_t pieces_of(const struct input *in)

@@ -7,7 +7,7 @@
 #include "sides.h"
 
 /* What is measured. The last two are boards alone. */
-enum shape { EXAMPLE_B, DENSE, CHAIN, FULLEST, RINGED, FULL_FILE, MIXED_FILE, SHAPES };
+enum shape { EXAMPLE_B, DENSE, CHAIN, FULLEST, RING_255, RING_511, FULL_FILE, MIXED_FILE, SHAPES };
 
 extern const char *const shape_names[SHAPES];
 
