@@ -1,4 +1,4 @@
-"""Runs the three programs on the bench examples A to M of the scope paper and compares what they write with the paper, to the letter.
+"""Runs the three programs and `./channel make` on the bench examples A to M of the scope paper and compares what they write with the paper, to the letter.
 
 Usage: python3 reference/examples.py target/bin
 """
@@ -43,12 +43,22 @@ def judged(program, pins, board):
         return run(program, cwd=folder)
 
 
+def made(text):
+    """What `./channel make` prints, its exit status, and the board file that it writes, if it does."""
+    with tempfile.TemporaryDirectory() as folder:
+        pins, board = Path(folder, "pins"), Path(folder, "board")
+        pins.write_bytes(text)
+        command = [Path(__file__).resolve().parent.parent / "channel", "make", pins, board]
+        done = subprocess.run(command, stdout=subprocess.PIPE, stderr=subprocess.DEVNULL, check=False)
+        return done.stdout, done.returncode, board.read_bytes() if board.exists() else None
+
+
 def main(bins):
     failures = []
 
     def expect(name, got, due):
         if got != due:
-            failures.append(f"{name}: wrote {got[:80]!r}, due {due[:80]!r}")
+            failures.append(f"{name}: wrote {str(got)[:80]}, due {str(due)[:80]}")
 
     for name, (text, due) in LISTED.items():
         expect(f"listing {name}", run(bins / "listing", text), due)
@@ -56,6 +66,9 @@ def main(bins):
         expect(f"board {name}", board, channel.board(text))
         if not due.startswith(b"REFUSED"):
             expect(f"judge {name}", judged(bins / "board_judge", text, board), b"GOOD %s\n" % due.split()[2])
+            expect(f"make {name}", made(text), (due, 0, board))
+        else:
+            expect(f"make {name}", made(text), (due, 1, None))
     file = run(bins / "board_writer", A)
     expect("file of A", file[:8], bytes.fromhex("0100401600200402"))
     width, tracks, pieces = channel.open_board(file)
