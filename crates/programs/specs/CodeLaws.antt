@@ -3,7 +3,7 @@
 use Prim.Native.Nat.{ℕ, _+_, _*_, _≤_, _<_}
 use native.Mathlib.Omega.{arith}
 use mathlib.Core.Path.{_≡_, refl, sym, _∙_, ap, subst}
-use mathlib.Core.List.{List, [], _∷_, _++_, append-nil}
+use mathlib.Core.List.{List, [], _++_, append-nil}
 use mathlib.Core.Bool.{true, false}
 use mathlib.Core.Option.{Option, none, some}
 use lib.ListN.{length, take, drop, length-append, length-take}
@@ -13,7 +13,6 @@ use Rattle.io.specs.Counts.{Counts}
 use Rattle.lists.specs.Lists.{each, keep}
 use Rattle.lists.specs.Overlays.{overlay-front}
 use Rattle.lists.specs.Stores.{sets-append, sets-overlay}
-use Rattle.lists.specs.Ranges.{length-each}
 use Rattle.refusal.specs.declared.Refusal.{Refusal}
 use Rattle.refusal.specs.declared.Refusal.the-variants as refusal
 use Rattle.refusal.specs.Refusals.{numberOf, placeOf, refuseIf, refuseAtFirst, _or-else_, answered, filledUnless}

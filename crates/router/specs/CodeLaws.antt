@@ -24,11 +24,9 @@ use Rattle.leftedge.specs.Nets.{netItems, fill, records}
 use Rattle.boardfile.specs.Encode.{encode}
 use Rattle.drawing.specs.Draw.{draw}
 use Rattle.router.specs.declared.Routing.{Routing}
-use Rattle.router.specs.declared.RouteAnswer.{RouteAnswer}
 use Rattle.router.specs.declared.RouteAnswer.the-variants as route
 use Rattle.router.specs.Route.{tangled, recordsMade, routeTrays, routeRefusal, routeAnswer, boardAfter, ringAfter, filledUnder7}
-use Rattle.router.specs.Contract.{RoutePromise}
-use Rattle.router.specs.ContractLaws.{only-tangled, stuck-answer, filled-answer, stuck-ring, filled-board, route-promise}
+use Rattle.router.specs.ContractLaws.{only-tangled, stuck-answer, filled-answer, stuck-ring, filled-board}
 use Rattle.router.specs.Code.{recordsUnless}
 
 -- both buffers are long enough

@@ -3,7 +3,7 @@ use Prim.Native.Nat.{ℕ, _≤_, _<_}
 use native.Mathlib.Omega.{arith}
 use native.Mathlib.Decide.{decLe}
 use mathlib.Core.Path.{_≡_, refl, sym, _∙_, ap, subst⁻¹}
-use mathlib.Core.List.{List, []}
+use mathlib.Core.List.{List}
 use mathlib.Core.Option.{Option, none, some}
 use lib.ListN.{length, take, drop, length-map}
 use lib.Seq.{take-at}
@@ -12,7 +12,7 @@ use Rattle.lists.specs.Lists.{keep, overlay}
 use Rattle.lists.specs.Tests.{T→true, fails→false}
 use Rattle.refusal.specs.declared.Refusal.{Refusal}
 use Rattle.refusal.specs.declared.Refusal.the-variants as refusal
-use Rattle.refusal.specs.Refusals.{refuseAtFirst, _or-else_, answered, filledUnless}
+use Rattle.refusal.specs.Refusals.{refuseAtFirst, _or-else_, filledUnless}
 use Rattle.refusal.specs.ChainLaws.{some-or-else}
 use Rattle.refusal.specs.Trays.{Tray, recordTray, ringTray, boardTray, shortTray}
 use Rattle.channel.specs.Channel.{Channel, nets}
@@ -24,7 +24,7 @@ use Rattle.promises.specs.Proved.{nets≤511}
 use Rattle.router.specs.declared.Routing.{Routing}
 use Rattle.router.specs.declared.Routed.{Routed}
 use Rattle.router.specs.declared.RouteAnswer.{RouteAnswer}
-use Rattle.router.specs.Route.{tangled, recordsMade, routeTrays, routeTraysWithRecords, routeRefusal, routeAnswer, recordsAfter, boardAfter, ringAfter, filledUnder7}
+use Rattle.router.specs.Route.{tangled, recordsMade, routeTrays, routeTraysWithRecords, routeRefusal, routeAnswer, recordsAfter, boardAfter, ringAfter}
 use Rattle.router.specs.Contract.{RoutePromise}
 use Rattle.router.specs.ContractLaws.{route-promise}
 use Rattle.router.specs.Code.{recordsUnless, RouteDone, RowsDone}

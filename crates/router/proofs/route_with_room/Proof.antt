@@ -1,7 +1,6 @@
 -- `router::route_with_room` meets its contract: a table that is too short is refused first, and one that is long enough changes nothing in the chain
 -- (`widened`). Assumes nothing.
 use native.Mathlib.Omega.{arith}
-use mathlib.Core.Path.{_≡_}
 use lib.ListN.{length}
 use borrow.Author.Needs.{needs}
 use Rattle.refusal.specs.declared.Refusal.the-variants.{ShortTray}

@@ -1,6 +1,6 @@
 -- `cover_of` meets its contract: by the values of the two tests of the kind, each field picked is that of the piece's box. Assumes nothing.
 use borrow.Author.Needs.{needs}
-use mathlib.Core.Path.{sym, _∙_}
+use mathlib.Core.Path.{sym}
 use Rattle.boardfile.specs.Open.{wordKind, wordLine, wordFrom, wordTo}
 use Rattle.judge.specs.BoxLaws.{pickedBox, box-picked}
 use Rattle.judge.proofs.boxes.cover_of.Statement.{statement}
