@@ -15,8 +15,8 @@ use Rattle.refusal.specs.declared.Refusal.{Refusal}
 use Rattle.refusal.specs.declared.Refusal.the-variants.{TooWide, Uneven, HighNet, LonePin}
 use Rattle.refusal.specs.Refusals.{refuseAtFirst, _or-else_}
 use Rattle.refusal.specs.ChainLaws.{none-refuse-if, some-refuse-if, none-refuse-at-first, none-or-else-later, some-or-else, answered-none, answered-some}
-use Rattle.channel.specs.declared.RowsAnswer.the-variants as rows
-use Rattle.channel.specs.Channel.{Channel, positions, highestNet, widest, pinCount}
+use Rattle.channel.specs.declared.RowsAnswer.the-variants as checking
+use Rattle.channel.specs.Channel.{Channel, positions, highestNet, widest, pinCount, rows}
 use Rattle.channel.specs.Answers.{tooWide, uneven, highNet, lonePin, rowsRefusal, rowsAnswer}
 use Rattle.channel.specs.Rows.{firstHigh, tally, firstLone}
 use Rattle.channel.specs.RowLaws.{high, zeros, first-high-neither, lone-counted}
@@ -52,11 +52,11 @@ module _ (ch : Channel) where
     pub bot-low : firstHigh (ch .bot) ≡ 0
 
   -- the answer of each test, and what is left of the chain past it
-  refused : (r : Refusal) → rowsRefusal ch ≡ some r → rows.Refused r ≡ rowsAnswer ch
+  refused : (r : Refusal) → rowsRefusal ch ≡ some r → checking.Refused r ≡ rowsAnswer ch
   unfolding rowsAnswer
-  refused r e = sym (answered-some rows.Refused (rowsRefusal ch) rows.Accepted r e)
+  refused r e = sym (answered-some checking.Refused (rowsRefusal ch) checking.Accepted r e)
 
-  pub answer-wide : (widest < length (ch .top)) ⊎ (widest < length (ch .bot)) → rows.Refused (TooWide 513) ≡ rowsAnswer ch
+  pub answer-wide : (widest < length (ch .top)) ⊎ (widest < length (ch .bot)) → checking.Refused (TooWide 513) ≡ rowsAnswer ch
   unfolding rowsRefusal tooWide
   answer-wide h =
       let a = ltb widest (length (ch .top)) in
@@ -72,13 +72,13 @@ module _ (ch : Channel) where
       none-or-else-later (tooWide ch) (uneven ch or-else highNet ch or-else lonePin ch)
       (none-refuse-if (a || b) (TooWide (suc widest)) (λ t. ⊎-elim (λ k. let l = ltb→lt widest (length (ch .top)) k in omega arith) (λ k. let l = ltb→lt widest (length (ch .bot)) k in omega arith) (or-cases a b t)))
 
-  pub answer-uneven : Narrow → (length (ch .top) ≡ length (ch .bot) → ⊥) ⊎ (length (ch .top) ≡ 0) → (p : ℕ) → p ≡ suc (min (length (ch .top)) (length (ch .bot))) → rows.Refused (Uneven p) ≡ rowsAnswer ch
+  pub answer-uneven : Narrow → (length (ch .top) ≡ length (ch .bot) → ⊥) ⊎ (length (ch .top) ≡ 0) → (p : ℕ) → p ≡ suc (min (length (ch .top)) (length (ch .bot))) → checking.Refused (Uneven p) ≡ rowsAnswer ch
   unfolding uneven
   answer-uneven n h p e =
       let a = eqb (length (ch .top)) (length (ch .bot)) in
       let b = eqb (length (ch .top)) 0 in
       let q = Uneven (suc (min (length (ch .top)) (length (ch .bot)))) in
-      ap (λ (k : ℕ). rows.Refused (Uneven k)) e ∙ refused q (past-wide n ∙ some-or-else (uneven ch) (highNet ch or-else lonePin ch) q
+      ap (λ (k : ℕ). checking.Refused (Uneven k)) e ∙ refused q (past-wide n ∙ some-or-else (uneven ch) (highNet ch or-else lonePin ch) q
       (some-refuse-if (not a || b) q (⊎-elim (λ o. or-left (not a) b (not-passes a (λ t. o (eqb→eq (length (ch .top)) (length (ch .bot)) t)))) (λ z. or-right (not a) b (subst (λ (k : ℕ). T (eqb k 0)) (sym z) (eqb-refl 0))) h)))
 
   past-uneven : Even → rowsRefusal ch ≡ (highNet ch or-else lonePin ch)
@@ -89,7 +89,7 @@ module _ (ch : Channel) where
       past-wide (s .narrow) ∙ none-or-else-later (uneven ch) (highNet ch or-else lonePin ch)
       (none-refuse-if (not a || b) _ (λ t. ⊎-elim (λ k. not-fails a k (subst (λ (m : ℕ). T (eqb (length (ch .top)) m)) (s .same) (eqb-refl (length (ch .top))))) (λ k. s .filled (eqb→eq (length (ch .top)) 0 k)) (or-cases (not a) b t)))
 
-  pub answer-high : Even → (p : ℕ) → firstHigh (positions ch) ≡ p → (p ≡ 0 → ⊥) → rows.Refused (HighNet p) ≡ rowsAnswer ch
+  pub answer-high : Even → (p : ℕ) → firstHigh (positions ch) ≡ p → (p ≡ 0 → ⊥) → checking.Refused (HighNet p) ≡ rowsAnswer ch
   unfolding highNet firstHigh
   answer-high s p e h =
       refused (HighNet p) (past-uneven s ∙ some-or-else (highNet ch) (lonePin ch) (HighNet p)
@@ -106,12 +106,12 @@ module _ (ch : Channel) where
     first-lone : p ≡ firstOf (λ n. eqb (pinCount ch n) 1) highestNet
     first-lone = counted ∙ lone-counted ch (l .top-low) (l .bot-low)
 
-    pub answer-lone : (p ≡ 0 → ⊥) → rows.Refused (LonePin p) ≡ rowsAnswer ch
+    pub answer-lone : (p ≡ 0 → ⊥) → checking.Refused (LonePin p) ≡ rowsAnswer ch
     unfolding lonePin
     answer-lone h =
         refused (LonePin p) (past-high l ∙ (refuse-first LonePin (λ n. eqb (pinCount ch n) 1) highestNet (λ z. h (first-lone ∙ z)) ∙ ap (λ (k : ℕ). some (LonePin k)) (sym first-lone)))
 
-    pub answer-accepted : p ≡ 0 → rows.Accepted ≡ rowsAnswer ch
+    pub answer-accepted : p ≡ 0 → checking.Accepted ≡ rowsAnswer ch
     unfolding lonePin rowsAnswer
     answer-accepted z =
-        sym (answered-none rows.Refused (rowsRefusal ch) rows.Accepted (past-high l ∙ refuse-none LonePin (λ n. eqb (pinCount ch n) 1) highestNet (sym first-lone ∙ z)))
+        sym (answered-none checking.Refused (rowsRefusal ch) checking.Accepted (past-high l ∙ refuse-none LonePin (λ n. eqb (pinCount ch n) 1) highestNet (sym first-lone ∙ z)))

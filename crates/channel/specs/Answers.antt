@@ -11,7 +11,7 @@ use Rattle.refusal.specs.declared.Refusal.{Refusal}
 use Rattle.refusal.specs.declared.Refusal.the-variants.{TooWide, Uneven, HighNet, LonePin}
 use Rattle.refusal.specs.Refusals.{Told, toldRefusal, toldValues, refuseIf, refuseAtFirst, _or-else_, answered}
 use Rattle.channel.specs.declared.RowsAnswer.{RowsAnswer}
-use Rattle.channel.specs.declared.RowsAnswer.the-variants as rows
+use Rattle.channel.specs.declared.RowsAnswer.the-variants as checking
 use Rattle.channel.specs.declared.BoundsAnswer.{BoundsAnswer}
 use Rattle.channel.specs.declared.BoundsAnswer.the-variants as bounds
 use Rattle.channel.specs.Channel.{Channel, width, positions, highestNet, widest, pinCount}
@@ -49,11 +49,11 @@ pub record Escapes (ch : Channel) : Type 0 where
 
 -- what the check of rows answers
 unfoldable pub rowsAnswer : Channel → RowsAnswer
-rowsAnswer ch = answered rows.Refused (rowsRefusal ch) rows.Accepted
+rowsAnswer ch = answered checking.Refused (rowsRefusal ch) checking.Accepted
 
 unfoldable pub rowsTold : RowsAnswer → Told
-rowsTold rows.Accepted = toldValues []
-rowsTold (rows.Refused r) = toldRefusal r
+rowsTold checking.Accepted = toldValues []
+rowsTold (checking.Refused r) = toldRefusal r
 
 -- "Asked for bounds alone, a tangled channel answers its density and chain 0, not refusal 7"
 unfoldable pub boundsAnswer : Channel → BoundsAnswer

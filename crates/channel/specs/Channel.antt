@@ -11,6 +11,10 @@ pub record Channel : Type 0 where
   pub top : List ℕ
   pub bot : List ℕ
 
+-- the channel of two rows that are handed over
+abbrev pub rows : List ℕ → List ℕ → Channel
+rows top bot = record { top = top; bot = bot }
+
 abbrev pub width : Channel → ℕ
 width ch = length (ch .top)
 

@@ -2,7 +2,7 @@
 ghost use mathlib.Core.Path.{_≡_};
 ghost use Prim.Native.Nat.{ℕ, _≤_};
 ghost use lib.ListN.{length, getD};
-ghost use Rattle.channel.specs.Channel.{highestNet};
+ghost use Rattle.channel.specs.Channel.{highestNet, rows};
 ghost use Rattle.channel.specs.Constraints.{chain};
 ghost use Rattle.channel.specs.Answers.{Escapes, boundsAnswer};
 ghost use Rattle.channel.specs.Spans.{each512, firsts, lasts};
@@ -27,9 +27,9 @@ fn count_nets(first: &[u32; 512]) -> u32
 
 // The most nets on a path down from each number, counted one net further than `old` has them.
 fn deeper(top: &[u32], bot: &[u32], old: &[u32; 512]) -> [u32; 512]
-    requires { ⌜ Escapes (record { top = now top; bot = now bot }) × ((n : ℕ) → getD (now old) n 0 ≤ highestNet) ⌝ }
+    requires { ⌜ Escapes (rows (now top) (now bot)) × ((n : ℕ) → getD (now old) n 0 ≤ highestNet) ⌝ }
     ensures { λ r.
-        ⌜ r ≡ each512 (deeperOver (record { top = now (top .entry); bot = now (bot .entry) }) (now (old .entry)) (length (now (top .entry)))) ⌝ }
+        ⌜ r ≡ each512 (deeperOver (rows (now (top .entry)) (now (bot .entry))) (now (old .entry)) (length (now (top .entry)))) ⌝ }
 {
     let mut new = [1u32; 512];
     let mut i: usize = 0;
@@ -65,8 +65,8 @@ fn deepest(first: &[u32; 512], last: &[u32; 512], depth: &[u32; 512]) -> u32
 
 // The chain of a channel that escapes refusals 3 to 6: 0 where it is tangled. At most 512 rounds over the columns.
 pub fn longest_chain(top: &[u32], bot: &[u32], first: &[u32; 512], last: &[u32; 512]) -> u32
-    requires { ⌜ Escapes (record { top = now top; bot = now bot }) × (now first ≡ firsts (record { top = now top; bot = now bot })) × (now last ≡ lasts (record { top = now top; bot = now bot })) ⌝ }
-    ensures { λ r. ⌜ r ≡ chain (record { top = now (top .entry); bot = now (bot .entry) }) ⌝ }
+    requires { ⌜ Escapes (rows (now top) (now bot)) × (now first ≡ firsts (rows (now top) (now bot))) × (now last ≡ lasts (rows (now top) (now bot))) ⌝ }
+    ensures { λ r. ⌜ r ≡ chain (rows (now (top .entry)) (now (bot .entry))) ⌝ }
 {
     let nets = count_nets(first);
     let mut depth = [0u32; 512];
@@ -84,7 +84,7 @@ pub fn longest_chain(top: &[u32], bot: &[u32], first: &[u32; 512], last: &[u32; 
 
 // The density and the chain of rows of any lengths and numbers, or the first of refusals 3 to 6 that applies.
 pub fn bounds(top: &[u32], bot: &[u32]) -> BoundsAnswer
-    ensures { λ r. ⌜ r ≡ boundsAnswer (record { top = now (top .entry); bot = now (bot .entry) }) ⌝ }
+    ensures { λ r. ⌜ r ≡ boundsAnswer (rows (now (top .entry)) (now (bot .entry))) ⌝ }
 {
     match crate::check(top, bot) {
         RowsAnswer::Refused(refusal) => BoundsAnswer::Refused(refusal),

@@ -2,6 +2,7 @@
 ghost use mathlib.Core.Path.{_≡_};
 ghost use Prim.Native.Nat.{ℕ, _≤_, _<_};
 ghost use lib.ListN.{length, getD};
+ghost use Rattle.channel.specs.Channel.{rows};
 ghost use Rattle.channel.specs.Answers.{rowsAnswer};
 ghost use Rattle.channel.specs.Rows.{firstHigh, tally, firstLone};
 use crate::RowsAnswer;
@@ -50,7 +51,7 @@ fn first_lone(counts: &[u32; 512]) -> usize
 
 // Accepts two rows, or refuses them with the first of refusals 3 to 6 that applies. Time is linear in the rows.
 pub fn check(top: &[u32], bot: &[u32]) -> RowsAnswer
-    ensures { λ r. ⌜ r ≡ rowsAnswer (record { top = now (top .entry); bot = now (bot .entry) }) ⌝ }
+    ensures { λ r. ⌜ r ≡ rowsAnswer (rows (now (top .entry)) (now (bot .entry))) ⌝ }
 {
     let a = top.len();
     let b = bot.len();

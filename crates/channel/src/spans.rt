@@ -2,6 +2,7 @@
 ghost use mathlib.Core.Path.{_≡_};
 ghost use Prim.Native.Nat.{_<_};
 ghost use lib.ListN.{set};
+ghost use Rattle.channel.specs.Channel.{rows};
 ghost use Rattle.channel.specs.Answers.{Escapes};
 ghost use Rattle.channel.specs.Spans.{firsts, lasts};
 ghost use Rattle.channel.specs.Starts.{firstNoted};
@@ -28,9 +29,9 @@ fn note(first: &mut [u32; 512], last: &mut [u32; 512], n: Net, c: Column)
 
 // The spans of a channel that escapes refusals 3 to 6.
 pub fn find_spans(top: &[u32], bot: &[u32]) -> Spans
-    requires { ⌜ Escapes (record { top = now top; bot = now bot }) ⌝ }
+    requires { ⌜ Escapes (rows (now top) (now bot)) ⌝ }
     ensures { λ r.
-        ⌜ (r .first ≡ firsts (record { top = now (top .entry); bot = now (bot .entry) })) × (r .last ≡ lasts (record { top = now (top .entry); bot = now (bot .entry) })) ⌝ }
+        ⌜ (r .first ≡ firsts (rows (now (top .entry)) (now (bot .entry)))) × (r .last ≡ lasts (rows (now (top .entry)) (now (bot .entry)))) ⌝ }
 {
     let mut first = [0u32; 512];
     let mut last = [0u32; 512];

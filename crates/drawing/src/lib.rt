@@ -7,7 +7,7 @@ ghost use lib.ListN.{length};
 ghost use lib.Dec.{eqb};
 ghost use Rattle.lists.specs.Lists.{overlay};
 ghost use Rattle.grid.specs.Pieces.{row};
-ghost use Rattle.channel.specs.Channel.{width};
+ghost use Rattle.channel.specs.Channel.{width, rows};
 ghost use Rattle.channel.specs.Spans.{firsts, lasts};
 ghost use Rattle.boardfile.specs.Encode.{encode};
 ghost use Rattle.drawing.specs.Draw.{drawColumn, drawSpan};
@@ -31,7 +31,7 @@ fn put(board: &mut [u8], count: u32, piece: Piece) -> u32
 // Column c has a pin of net n.
 fn has_pin(top: &[u32], bot: &[u32], n: Net, c: Column) -> bool
     requires { ⌜ (1 ≤ c .0) × (c .0 ≤ length (now top)) × (length (now bot) ≡ length (now top)) ⌝ }
-    ensures { λ r. ⌜ r ≡ hasPin (record { top = now (top .entry); bot = now (bot .entry) }) (n .0) (c .0) ⌝ }
+    ensures { λ r. ⌜ r ≡ hasPin (rows (now (top .entry)) (now (bot .entry))) (n .0) (c .0) ⌝ }
 {
     let i = c.0 as usize - 1;
     (top[i] == n.0) | (bot[i] == n.0)
@@ -55,8 +55,8 @@ fn draw_column(
     t: u32,
     c: Column,
 ) -> u32
-    requires { ⌜ (t ≤ 511) × (1 ≤ c .0) × (c .0 ≤ length (now top)) × (length (now bot) ≡ length (now top)) × Room (now board) count (drawColumn (record { top = now top; bot = now bot }) t (k .0) (n .0) (c .0)) ⌝ }
-    ensures { λ r. ⌜ Put (now (board .entry)) (now (board .exit)) count r (drawColumn (record { top = now (top .entry); bot = now (bot .entry) }) t (k .0) (n .0) (c .0)) ⌝ }
+    requires { ⌜ (t ≤ 511) × (1 ≤ c .0) × (c .0 ≤ length (now top)) × (length (now bot) ≡ length (now top)) × Room (now board) count (drawColumn (rows (now top) (now bot)) t (k .0) (n .0) (c .0)) ⌝ }
+    ensures { λ r. ⌜ Put (now (board .entry)) (now (board .exit)) count r (drawColumn (rows (now (top .entry)) (now (bot .entry))) t (k .0) (n .0) (c .0)) ⌝ }
 {
     let i = c.0 as usize - 1;
     let low = end_row(bot[i], n, 0, k);
@@ -92,8 +92,8 @@ fn draw_span(
     first: Column,
     last: Column,
 ) -> u32
-    requires { ⌜ (t ≤ 511) × StandsIn (record { top = now top; bot = now bot }) (n .0) (first .0) (last .0) × Room (now board) count (drawSpan (record { top = now top; bot = now bot }) t (k .0) (n .0)) ⌝ }
-    ensures { λ r. ⌜ Put (now (board .entry)) (now (board .exit)) count r (drawSpan (record { top = now (top .entry); bot = now (bot .entry) }) t (k .0) (n .0)) ⌝ }
+    requires { ⌜ (t ≤ 511) × StandsIn (rows (now top) (now bot)) (n .0) (first .0) (last .0) × Room (now board) count (drawSpan (rows (now top) (now bot)) t (k .0) (n .0)) ⌝ }
+    ensures { λ r. ⌜ Put (now (board .entry)) (now (board .exit)) count r (drawSpan (rows (now (top .entry)) (now (bot .entry))) t (k .0) (n .0)) ⌝ }
 {
     let mut drawn = put(
         board,
@@ -126,8 +126,8 @@ fn draw_net(
     first: Column,
     last: Column,
 ) -> u32
-    requires { ⌜ (t ≤ 511) × StandsIn (record { top = now top; bot = now bot }) (n .0) (first .0) (last .0) × Room (now board) count (netPieces (record { top = now top; bot = now bot }) t (k .0) (n .0)) ⌝ }
-    ensures { λ r. ⌜ Put (now (board .entry)) (now (board .exit)) count r (netPieces (record { top = now (top .entry); bot = now (bot .entry) }) t (k .0) (n .0)) ⌝ }
+    requires { ⌜ (t ≤ 511) × StandsIn (rows (now top) (now bot)) (n .0) (first .0) (last .0) × Room (now board) count (netPieces (rows (now top) (now bot)) t (k .0) (n .0)) ⌝ }
+    ensures { λ r. ⌜ Put (now (board .entry)) (now (board .exit)) count r (netPieces (rows (now (top .entry)) (now (bot .entry))) t (k .0) (n .0)) ⌝ }
 {
     if first.0 < last.0 {
         return draw_span(board, count, top, bot, n, k, t, first, last);
@@ -154,9 +154,9 @@ pub fn draw_board(
     t: u32,
     board: &mut [u8],
 ) -> u32
-    requires { ⌜ Tracked (record { top = now top; bot = now bot }) (now tracks) t × (now first ≡ firsts (record { top = now top; bot = now bot })) × (now last ≡ lasts (record { top = now top; bot = now bot })) × (10240 ≤ length (now board)) ⌝ }
+    requires { ⌜ Tracked (rows (now top) (now bot)) (now tracks) t × (now first ≡ firsts (rows (now top) (now bot))) × (now last ≡ lasts (rows (now top) (now bot))) × (10240 ≤ length (now board)) ⌝ }
     ensures { λ r.
-        ⌜ (r ≡ length (drawnBy (record { top = now (top .entry); bot = now (bot .entry) }) (now (tracks .entry)) t .pieces)) × (now (board .exit) ≡ overlay (encode (width (record { top = now (top .entry); bot = now (bot .entry) })) (drawnBy (record { top = now (top .entry); bot = now (bot .entry) }) (now (tracks .entry)) t)) (now (board .entry))) ⌝ }
+        ⌜ (r ≡ length (drawnBy (rows (now (top .entry)) (now (bot .entry))) (now (tracks .entry)) t .pieces)) × (now (board .exit) ≡ overlay (encode (width (rows (now (top .entry)) (now (bot .entry)))) (drawnBy (rows (now (top .entry)) (now (bot .entry))) (now (tracks .entry)) t)) (now (board .entry))) ⌝ }
 {
     let mut count: u32 = 0;
     let mut n: u32 = 1;

@@ -1,5 +1,14 @@
 // The grid of a board: its numbers, each with a type of its own so that a column is never taken where a track is due,
 // and the pieces of copper that lie on it.
+pub const WIDEST: usize = 512;
+
+pub const HIGHEST_NET: u32 = 511;
+
+// How many nets there can be, and the places of a table by net number, in which place 0 is nobody's.
+pub const NETS: usize = HIGHEST_NET as usize;
+
+pub const NET_SLOTS: usize = NETS + 1;
+
 pub struct Column(pub u32);
 
 pub struct Track(pub u32);

@@ -10,7 +10,7 @@ use lib.Dec.{T, ltb, eqb, eqb→eq, eqb-refl}
 use Rattle.lists.specs.Lists.{keep, anyOf, upTo, headOr, at}
 use Rattle.lists.specs.Tests.{true→T, false→fails, not-fails, not-passes}
 use Rattle.lists.specs.Members.{keep-member, upTo-member}
-use Rattle.channel.specs.Channel.{Channel, width, positions}
+use Rattle.channel.specs.Channel.{Channel, width, positions, rows}
 use Rattle.channel.specs.Answers.{Escapes}
 use Rattle.wiring.specs.Pins.{Pin, top, bot, netOf, pinAt}
 use Rattle.wiring.specs.Layouts.{Layout}
@@ -24,7 +24,7 @@ use Rattle.judge.specs.Searches.{Owned, owned-same, owned-new, short-fou
 
 -- rows that escape the refusals, and a mark from 1 to 5,119 at each pin place and for each piece
 pub record FaultReady (top bot ms : List ℕ) : Type 0 where
-  pub escapes : Escapes (record { top = top; bot = bot })
+  pub escapes : Escapes (rows top bot)
   pub long : length top + length top ≤ length ms
   pub marked : (i : ℕ) → i < length ms → (0 < getD ms i 0) × (getD ms i 0 < 5120)
 

@@ -20,8 +20,8 @@ use Rattle.refusal.specs.Trays.{Tray, scratchTray, shortTray}
 use Rattle.refusal.specs.TrayLaws.{trays-fit}
 use Rattle.grid.specs.declared.Piece.{Piece}
 use Rattle.grid.specs.Pieces.{OnGrid}
-use Rattle.channel.specs.declared.RowsAnswer.the-variants as rows
-use Rattle.channel.specs.Channel.{Channel, width}
+use Rattle.channel.specs.declared.RowsAnswer.the-variants as checking
+use Rattle.channel.specs.Channel.{Channel, width, rows}
 use Rattle.channel.specs.Answers.{rowsRefusal, Escapes, rowsAnswer}
 use Rattle.channel.specs.EscapeLaws.{accepted-exactly}
 use Rattle.wiring.specs.Layouts.{Layout}
@@ -156,19 +156,19 @@ found-fault t none f e = absurd (let z : _≡_ {A = ℕ} 0 1 = cc in omega arith
 found-fault t (some g) f e = let q : f ≡ g = cc in ap Faulty q
 
 -- what the answers of the parts say of their refusals
-rows-refused : (ch : Channel) (r : Refusal) → rows.Refused r ≡ rowsAnswer ch → rowsRefusal ch ≡ some r
+rows-refused : (ch : Channel) (r : Refusal) → checking.Refused r ≡ rowsAnswer ch → rowsRefusal ch ≡ some r
 unfolding answered rowsAnswer
 rows-refused ch r = go (rowsRefusal ch)
   where
-    go : (a : Option Refusal) → rows.Refused r ≡ answered rows.Refused a rows.Accepted → a ≡ some r
+    go : (a : Option Refusal) → checking.Refused r ≡ answered checking.Refused a checking.Accepted → a ≡ some r
     go none e = absurd (let z : _≡_ {A = ℕ} 0 1 = cc in omega arith)
     go (some q) e = let same : q ≡ r = cc in ap some same
 
-rows-accepted : (ch : Channel) → rows.Accepted ≡ rowsAnswer ch → rowsRefusal ch ≡ none
+rows-accepted : (ch : Channel) → checking.Accepted ≡ rowsAnswer ch → rowsRefusal ch ≡ none
 unfolding answered rowsAnswer
 rows-accepted ch = go (rowsRefusal ch)
   where
-    go : (a : Option Refusal) → rows.Accepted ≡ answered rows.Refused a rows.Accepted → a ≡ none
+    go : (a : Option Refusal) → checking.Accepted ≡ answered checking.Refused a checking.Accepted → a ≡ none
     go none e = refl
     go (some q) e = absurd (let z : _≡_ {A = ℕ} 0 1 = cc in omega arith)
 
@@ -216,10 +216,10 @@ module _ (ch : Channel) (board : List ℕ) (n : ℕ) where
         none-or-else-later (shortTray (tray ∷ [])) (rowsRefusal ch or-else openRefusal board or-else wrongBoard ch board)
         (trays-fit (tray ∷ []) .1 (λ b m. ⊎-elim (λ e. subst (λ (t : Tray). t .needed ≤ t .lent) (sym e) room) (λ z. absurd (List·Memᴰ·not-nil z)) (List·Memᴰ·cases-cons m)))
 
-    pub answer-rows : (r : Refusal) → rows.Refused r ≡ rowsAnswer ch → Refused r ≡ judgeAnswer ch board n
+    pub answer-rows : (r : Refusal) → checking.Refused r ≡ rowsAnswer ch → Refused r ≡ judgeAnswer ch board n
     answer-rows r e = refused r (past-short ∙ some-or-else (rowsRefusal ch) (openRefusal board or-else wrongBoard ch board) r (rows-refused ch r e))
 
-    module _ (accepted : rows.Accepted ≡ rowsAnswer ch) where
+    module _ (accepted : checking.Accepted ≡ rowsAnswer ch) where
       past-rows : judgeRefusal ch board n ≡ (openRefusal board or-else wrongBoard ch board)
       past-rows = past-short ∙ none-or-else-later (rowsRefusal ch) (openRefusal board or-else wrongBoard ch board) (rows-accepted ch accepted)
 

@@ -7,6 +7,7 @@ use Rattle.grid.specs.Pieces.{branchKind, OnGrid}
 use Rattle.boardfile.specs.Open.{pieceOf}
 use Rattle.judge.specs.declared.boxes.Cover.{Cover}
 use Rattle.judge.specs.Finding.{marks}
+use Rattle.channel.specs.Channel.{rows}
 use Rattle.judge.specs.WordMarks.{wordsLayout}
 
 -- a branch's column is one of the rows', and the marks of all pin places are there
@@ -30,4 +31,4 @@ pub record MarkReady (top bot : List ℕ) (t : ℕ) (words : List ℕ) (count : 
 -- piece j lies on the grid, and the elements before it are marked
 pub record PieceReady (top bot : List ℕ) (t : ℕ) (words : List ℕ) (j : ℕ) (s : List ℕ) : Type 0 where
   pub ready : MarkReady top bot t words (j + 1) s
-  pub marked : take (length top + length top + j) s ≡ marks (record { top = top; bot = bot }) (wordsLayout t (take j words))
+  pub marked : take (length top + length top + j) s ≡ marks (rows top bot) (wordsLayout t (take j words))

@@ -11,6 +11,7 @@ ghost use Rattle.judge.specs.Finding.{marks};
 ghost use Rattle.judge.specs.Joins.{relabelled, JoinedTo};
 ghost use Rattle.judge.specs.Touched.{touched};
 ghost use Rattle.judge.specs.WordMarks.{wordsLayout, pinPlaces};
+ghost use Rattle.channel.specs.Channel.{rows};
 ghost use Rattle.judge.specs.Marking.{PinsReady, PieceReady, MarkReady};
 use crate::boxes::Cover;
 use crate::boxes::cover_of;
@@ -85,7 +86,7 @@ fn join_pin(
 fn join_pins(top: &[u32], bot: &[u32], tracks: u32, c: Cover, scratch: &mut [u32], n: usize) -> u32
     requires { ⌜ PinsReady (now top) (now bot) tracks c n (now scratch) ⌝ }
     ensures { λ r.
-        ⌜ JoinedTo n (now (scratch .entry)) 0 (pinPlaces (record { top = now (top .entry); bot = now (bot .entry) }) tracks c) r (now (scratch .exit)) ⌝ }
+        ⌜ JoinedTo n (now (scratch .entry)) 0 (pinPlaces (rows (now (top .entry)) (now (bot .entry))) tracks c) r (now (scratch .exit)) ⌝ }
 {
     if c.kind != 1 {
         return 0;
@@ -140,7 +141,7 @@ fn add_piece(
 )
     requires { ⌜ PieceReady (now top) (now bot) tracks (now words) j (now scratch) ⌝ }
     ensures { λ _.
-        ⌜ take (length (now (top .entry)) + length (now (top .entry)) + (j + 1)) (now (scratch .exit)) ≡ marks (record { top = now (top .entry); bot = now (bot .entry) }) (wordsLayout tracks (take (j + 1) (now (words .entry)))) ⌝ }
+        ⌜ take (length (now (top .entry)) + length (now (top .entry)) + (j + 1)) (now (scratch .exit)) ≡ marks (rows (now (top .entry)) (now (bot .entry))) (wordsLayout tracks (take (j + 1) (now (words .entry)))) ⌝ }
 {
     let base = top.len() + top.len();
     let c = cover_of(words[j]);
@@ -160,7 +161,7 @@ pub fn mark_classes(
 )
     requires { ⌜ MarkReady (now top) (now bot) tracks (now words) count (now scratch) ⌝ }
     ensures { λ _.
-        ⌜ take (length (now (top .entry)) + length (now (top .entry)) + count) (now (scratch .exit)) ≡ marks (record { top = now (top .entry); bot = now (bot .entry) }) (wordsLayout tracks (take count (now (words .entry)))) ⌝ }
+        ⌜ take (length (now (top .entry)) + length (now (top .entry)) + count) (now (scratch .exit)) ≡ marks (rows (now (top .entry)) (now (bot .entry))) (wordsLayout tracks (take count (now (words .entry)))) ⌝ }
 {
     mark_alone(scratch, top.len() + top.len());
     let mut j: usize = 0;

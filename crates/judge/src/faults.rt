@@ -5,6 +5,7 @@ ghost use Prim.Native.Nat.{ℕ, _+_, _≤_, _<_};
 ghost use lib.ListN.{length, getD, take};
 ghost use Rattle.lists.specs.Lists.{headOr};
 ghost use Rattle.judge.specs.Finding.{opens};
+ghost use Rattle.channel.specs.Channel.{rows};
 ghost use Rattle.judge.specs.FaultSteps.{Blank, Claimed, FaultReady, ShortFound, FirstFloating, Finds};
 use crate::Fault;
 
@@ -49,7 +50,7 @@ fn claim(table: &mut [u32], pin: bool, at: usize, value: u32) -> bool
 fn first_short(top: &[u32], bot: &[u32], marks: &[u32], owners: &mut [u32]) -> usize
     requires { ⌜ FaultReady (now top) (now bot) (now marks) × Blank 5120 (now owners) ⌝ }
     ensures { λ r.
-        ⌜ ShortFound (record { top = now (top .entry); bot = now (bot .entry) }) (now (marks .entry)) r (now (owners .exit)) ⌝ }
+        ⌜ ShortFound (rows (now (top .entry)) (now (bot .entry))) (now (marks .entry)) r (now (owners .exit)) ⌝ }
 {
     let mut i: usize = 0;
     while i < top.len() + top.len() {
@@ -67,7 +68,7 @@ fn first_short(top: &[u32], bot: &[u32], marks: &[u32], owners: &mut [u32]) -> u
 fn first_open(top: &[u32], bot: &[u32], marks: &[u32], firsts: &mut [u32]) -> usize
     requires { ⌜ FaultReady (now top) (now bot) (now marks) × Blank 512 (now firsts) ⌝ }
     ensures { λ r.
-        ⌜ r ≡ headOr 0 (opens (record { top = now (top .entry); bot = now (bot .entry) }) (now (marks .entry))) ⌝ }
+        ⌜ r ≡ headOr 0 (opens (rows (now (top .entry)) (now (bot .entry))) (now (marks .entry))) ⌝ }
 {
     let mut i: usize = 0;
     while i < top.len() + top.len() {
@@ -99,7 +100,7 @@ fn first_floating(marks: &[u32], base: usize, count: usize, owners: &[u32]) -> u
 pub fn find_fault(top: &[u32], bot: &[u32], marks: &[u32], count: usize) -> Found
     requires { ⌜ (length (now top) + length (now top) + count ≤ length (now marks)) × FaultReady (now top) (now bot) (take (length (now top) + length (now top) + count) (now marks)) ⌝ }
     ensures { λ r.
-        ⌜ Finds (record { top = now (top .entry); bot = now (bot .entry) }) (take (length (now (top .entry)) + length (now (top .entry)) + count) (now (marks .entry))) count r ⌝ }
+        ⌜ Finds (rows (now (top .entry)) (now (bot .entry))) (take (length (now (top .entry)) + length (now (top .entry)) + count) (now (marks .entry))) count r ⌝ }
 {
     let base = top.len() + top.len();
     let n = base + count;

@@ -6,6 +6,7 @@ ghost use Rattle.boardfile.specs.Open.{fileLayout};
 ghost use Rattle.judge.specs.Finding.{finding};
 ghost use Rattle.judge.specs.Answers.{judged};
 ghost use Rattle.judge.specs.Code.{Judged};
+ghost use Rattle.channel.specs.Channel.{rows};
 ghost use Rattle.judge.specs.JudgeSteps.{WordsRead, PiecesReady};
 
 mod boxes;
@@ -53,9 +54,9 @@ fn judge_pieces(
     count: usize,
     scratch: &mut [u32],
 ) -> JudgeAnswer
-    requires { ⌜ PiecesReady (record { top = now top; bot = now bot }) (now board) tracks count (now scratch) ⌝ }
+    requires { ⌜ PiecesReady (rows (now top) (now bot)) (now board) tracks count (now scratch) ⌝ }
     ensures { λ r.
-        ⌜ r ≡ judged tracks (finding (record { top = now (top .entry); bot = now (bot .entry) }) (fileLayout (now (board .entry)))) ⌝ }
+        ⌜ r ≡ judged tracks (finding (rows (now (top .entry)) (now (bot .entry))) (fileLayout (now (board .entry)))) ⌝ }
 {
     let mut words = [0u32; 4096];
     read_words(board, count, &mut words);
@@ -70,7 +71,7 @@ fn judge_pieces(
 // anything afterwards, at its old length. At worst each piece is compared with all before it.
 pub fn judge(top: &[u32], bot: &[u32], board: &[u8], scratch: &mut [u32]) -> JudgeAnswer
     ensures { λ r.
-        ⌜ Judged (record { top = now (top .entry); bot = now (bot .entry) }) (now (board .entry)) (now (scratch .entry)) r (now (scratch .exit)) ⌝ }
+        ⌜ Judged (rows (now (top .entry)) (now (bot .entry))) (now (board .entry)) (now (scratch .entry)) r (now (scratch .exit)) ⌝ }
 {
     if scratch.len() < 10238 {
         return JudgeAnswer::Refused(Refusal::ShortTray(10238));

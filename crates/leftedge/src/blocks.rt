@@ -1,14 +1,15 @@
 // What is blocked from below, marked once a track from the columns. A net that is placed on this track blocks nobody new on it: a net
 // directly above it shares a column with it, and so does not fit on the track anyway.
 ghost use mathlib.Core.Path.{_≡_};
+ghost use Rattle.channel.specs.Channel.{rows};
 ghost use Rattle.channel.specs.Answers.{Escapes};
 ghost use Rattle.leftedge.specs.Marked.{blockedMarks};
 
 // For each net number 1 if a net without a track stands directly below it, else 0.
 pub fn blocked(top: &[u32], bot: &[u32], tracks: &[u32; 512]) -> [u32; 512]
-    requires { ⌜ Escapes (record { top = now top; bot = now bot }) ⌝ }
+    requires { ⌜ Escapes (rows (now top) (now bot)) ⌝ }
     ensures { λ r.
-        ⌜ r ≡ blockedMarks (record { top = now (top .entry); bot = now (bot .entry) }) (now (tracks .entry)) ⌝ }
+        ⌜ r ≡ blockedMarks (rows (now (top .entry)) (now (bot .entry))) (now (tracks .entry)) ⌝ }
 {
     let mut marks = [0u32; 512];
     let mut i: usize = 0;

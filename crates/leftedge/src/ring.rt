@@ -3,6 +3,7 @@ ghost use mathlib.Core.Path.{_≡_};
 ghost use Prim.Native.Nat.{ℕ, _-_, _*_, _≤_, _<_};
 ghost use lib.ListN.{length, take, getD, replicate};
 ghost use Rattle.lists.specs.Lists.{least, overlay};
+ghost use Rattle.channel.specs.Channel.{rows};
 ghost use Rattle.channel.specs.Answers.{Escapes};
 ghost use Rattle.channel.specs.Spans.{each512};
 ghost use Rattle.leftedge.specs.Walk.{ringOf, ringNumbers};
@@ -13,9 +14,9 @@ use grid::Net;
 
 // For each net number its lowest column that has a net without a track below it, 0 if there is none.
 fn lowest_drops(top: &[u32], bot: &[u32], tracks: &[u32; 512]) -> [u32; 512]
-    requires { ⌜ Escapes (record { top = now top; bot = now bot }) ⌝ }
+    requires { ⌜ Escapes (rows (now top) (now bot)) ⌝ }
     ensures { λ r.
-        ⌜ r ≡ each512 (lowestDrop (record { top = now (top .entry); bot = now (bot .entry) }) (now (tracks .entry))) ⌝ }
+        ⌜ r ≡ each512 (lowestDrop (rows (now (top .entry)) (now (bot .entry))) (now (tracks .entry))) ⌝ }
 {
     let mut columns = [0u32; 512];
     let mut i = top.len();
@@ -109,9 +110,9 @@ pub fn show_ring(
     count: usize,
     ring: &mut [u32],
 ) -> u32
-    requires { ⌜ WalkFrom (record { top = now top; bot = now bot }) (now tracks) (now left) count × (1022 ≤ length (now ring)) ⌝ }
+    requires { ⌜ WalkFrom (rows (now top) (now bot)) (now tracks) (now left) count × (1022 ≤ length (now ring)) ⌝ }
     ensures { λ r.
-        ⌜ (r ≡ length (ringOf (netItems (record { top = now (top .entry); bot = now (bot .entry) })) (take count (now (left .entry))))) × (now (ring .exit) ≡ overlay (ringNumbers (ringOf (netItems (record { top = now (top .entry); bot = now (bot .entry) })) (take count (now (left .entry))))) (now (ring .entry))) ⌝ }
+        ⌜ (r ≡ length (ringOf (netItems (rows (now (top .entry)) (now (bot .entry)))) (take count (now (left .entry))))) × (now (ring .exit) ≡ overlay (ringNumbers (ringOf (netItems (rows (now (top .entry)) (now (bot .entry)))) (take count (now (left .entry))))) (now (ring .entry))) ⌝ }
 {
     let columns = lowest_drops(top, bot, tracks);
     let mut trail = [0u32; 512];

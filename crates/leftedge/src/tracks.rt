@@ -3,6 +3,7 @@ ghost use mathlib.Core.Path.{_≡_};
 ghost use Prim.Native.Nat.{ℕ, _+_, _≤_, _<_};
 ghost use mathlib.Core.List.{List·Memᴰ};
 ghost use lib.ListN.{length, take};
+ghost use Rattle.channel.specs.Channel.{rows};
 ghost use Rattle.channel.specs.Answers.{Escapes};
 ghost use Rattle.channel.specs.Spans.{firsts, lasts};
 ghost use Rattle.leftedge.specs.Code.{FillDone};
@@ -55,9 +56,9 @@ pub fn fill_tracks(
     last: &[u32; 512],
     ring: &mut [u32],
 ) -> Filled
-    requires { ⌜ Escapes (record { top = now top; bot = now bot }) × (now first ≡ firsts (record { top = now top; bot = now bot })) × (now last ≡ lasts (record { top = now top; bot = now bot })) × (1022 ≤ length (now ring)) ⌝ }
+    requires { ⌜ Escapes (rows (now top) (now bot)) × (now first ≡ firsts (rows (now top) (now bot))) × (now last ≡ lasts (rows (now top) (now bot))) × (1022 ≤ length (now ring)) ⌝ }
     ensures { λ r.
-        ⌜ FillDone (record { top = now (top .entry); bot = now (bot .entry) }) (now (ring .entry)) r (now (ring .exit)) ⌝ }
+        ⌜ FillDone (rows (now (top .entry)) (now (bot .entry))) (now (ring .entry)) r (now (ring .exit)) ⌝ }
 {
     let mut left = [0u32; 512];
     let mut tracks = [0u32; 512];

@@ -7,6 +7,7 @@ use Rattle.refusal.specs.declared.Refusal.{Refusal}
 use Rattle.refusal.specs.declared.Refusal.the-variants.{Garbled}
 use Rattle.refusal.specs.Refusals.{Told, toldRefusal, toldValues, _or-else_, answered, filledUnless}
 use Rattle.refusal.specs.Trays.{rowTray, shortTray}
+use Rattle.channel.specs.Channel as channel
 use Rattle.channel.specs.Channel.{Channel, width}
 use Rattle.channel.specs.Answers.{rowsRefusal}
 use Rattle.pinlist.specs.declared.ReadAnswer.{ReadAnswer}
@@ -20,8 +21,8 @@ garbledRefusal (garbled n) = some (Garbled n)
 
 -- the channel that a text of the form writes down
 unfoldable pub channelOf : TextRead → Channel
-channelOf (rows top bot) = record { top = top; bot = bot }
-channelOf (garbled n) = record { top = []; bot = [] }
+channelOf (rows top bot) = channel.rows top bot
+channelOf (garbled n) = channel.rows [] []
 
 abbrev pub textChannel : List ℕ → Channel
 textChannel text = channelOf (readText text)

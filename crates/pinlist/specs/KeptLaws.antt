@@ -17,15 +17,12 @@ use Rattle.refusal.specs.declared.Refusal.{Refusal}
 use Rattle.refusal.specs.declared.Refusal.the-variants.{HighNet}
 use Rattle.refusal.specs.Refusals.{refuseAtFirst, _or-else_}
 use Rattle.refusal.specs.ChainLaws.{refuse-at-first-none, or-else-none}
-use Rattle.channel.specs.Channel.{Channel, positions, highestNet}
+use Rattle.channel.specs.Channel.{Channel, positions, highestNet, rows}
 use Rattle.channel.specs.Answers.{tooWide, uneven, highNet, lonePin, rowsRefusal}
 use Rattle.pinlist.specs.Code.{kept}
 
-abbrev pub asChannel : List ℕ → List ℕ → Channel
-asChannel top bot = record { top = top; bot = bot }
-
 abbrev pub keptChannel : Channel → Channel
-keptChannel ch = asChannel (map kept (ch .top)) (map kept (ch .bot))
+keptChannel ch = rows (map kept (ch .top)) (map kept (ch .bot))
 
 -- refusal 5 over the numbers of all positions
 abbrev high : List ℕ → ℕ → Bool
@@ -59,7 +56,7 @@ rows-same : (ch : Channel) → highNet ch ≡ none → keptChannel ch ≡ ch
 unfolding highNet
 rows-same ch e =
     let low = low-member (positions ch) e in
-    ap₂ asChannel (kept-same (ch .top) (λ n m. low n (Memᴰ·append-left (ch .bot) m))) (kept-same (ch .bot) (λ n m. low n (Memᴰ·append-right (ch .top) m)))
+    ap₂ rows (kept-same (ch .top) (λ n m. low n (Memᴰ·append-left (ch .bot) m))) (kept-same (ch .bot) (λ n m. low n (Memᴰ·append-right (ch .top) m)))
 
 high-net-same : (ch : Channel) → highNet (keptChannel ch) ≡ highNet ch
 unfolding highNet

@@ -31,7 +31,8 @@ use Rattle.pinlist.specs.Reader.{rows, garbled, readText}
 use Rattle.pinlist.specs.Answers.{garbledRefusal, channelOf, textRefusal, readRefusal, readAnswer, topAfter, botAfter}
 use Rattle.pinlist.specs.Code.{kept, textRead, Parsed, ReadDone}
 use Rattle.pinlist.specs.RowLaws.{Held}
-use Rattle.pinlist.specs.KeptLaws.{asChannel, keptChannel, kept-refusal, accepted-same}
+use Rattle.channel.specs.Channel as channel
+use Rattle.pinlist.specs.KeptLaws.{keptChannel, kept-refusal, accepted-same}
 
 -- what a parsed text was
 pub parsed-garbled : (text t b t′ b′ : List ℕ) (r : TextRead) {k : ℕ} → Parsed text t b r t′ b′ → r ≡ answer.Garbled k → readText text ≡ garbled k
@@ -110,7 +111,7 @@ module _ (text top bot : List ℕ) where
 
     module _ {t′ b′ : List ℕ} {a c : ℕ} (both : BothRows text t′ b′ a c) where
       abbrev ch : Channel
-      ch = asChannel (both .top) (both .bot)
+      ch = channel.rows (both .top) (both .bot)
 
       of-rows : readRefusal text (length top) (length bot) ≡ rowsRefusal ch
       unfolding textRefusal garbledRefusal channelOf _or-else_
@@ -127,10 +128,10 @@ module _ (text top bot : List ℕ) where
           refused (of-rows ∙ some-or-else (tooWide ch) (uneven ch or-else highNet ch or-else lonePin ch) (TooWide 513) (some-refuse-if (one || other) (TooWide 513) (⊎-elim (λ w. or-left one other (lt→ltb 512 (length (both .top)) (omega arith))) (λ w. or-right one other (lt→ltb 512 (length (both .bot)) (omega arith))) h)))
 
       -- 3 to 6, as the check of the kept rows says them
-      module _ (narrow₁ : a ≤ 512) (narrow₂ : c ≤ 512) (r : RowsAnswer) (check : r ≡ rowsAnswer (asChannel (take a t′) (take c b′))) where
+      module _ (narrow₁ : a ≤ 512) (narrow₂ : c ≤ 512) (r : RowsAnswer) (check : r ≡ rowsAnswer (channel.rows (take a t′) (take c b′))) where
         said : r ≡ answered checked.Refused (rowsRefusal ch) checked.Accepted
         unfolding rowsAnswer
-        said = check ∙ ap (λ (o : Option Refusal). answered checked.Refused o checked.Accepted) (ap rowsRefusal (ap₂ asChannel (top-front both narrow₁) (bot-front both narrow₂)) ∙ kept-refusal ch)
+        said = check ∙ ap (λ (o : Option Refusal). answered checked.Refused o checked.Accepted) (ap rowsRefusal (ap₂ channel.rows (top-front both narrow₁) (bot-front both narrow₂)) ∙ kept-refusal ch)
 
         pub check-refuses : {q : Refusal} → r ≡ checked.Refused q → ReadDone text top bot (Refused q) top bot
         unfolding answered

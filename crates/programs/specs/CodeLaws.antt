@@ -19,7 +19,7 @@ use Rattle.refusal.specs.Refusals.{numberOf, placeOf, refuseIf, refuseAtFirst, 
 use Rattle.refusal.specs.ChainLaws.{or-else-none, answered-none, answered-some}
 use Rattle.refusal.specs.Trays.{shortTray, ringTray, boardTray}
 use Rattle.channel.specs.declared.BoundsAnswer.the-variants as bounds
-use Rattle.channel.specs.Channel.{Channel, width}
+use Rattle.channel.specs.Channel.{Channel, width, rows}
 use Rattle.channel.specs.Density.{density}
 use Rattle.channel.specs.Constraints.{Step, chain}
 use Rattle.channel.specs.Answers.{Escapes, rowsRefusal, boundsAnswer}
@@ -89,8 +89,8 @@ pub record ReadRows (text top bot : List ℕ) (w : ℕ) : Type 0 where
   pub bot-inside : w ≤ length bot
   pub top-size : w ≡ length (take w top)
   pub bot-size : w ≡ length (take w bot)
-  pub escape : Escapes (record { top = take w top; bot = take w bot })
-  pub output : (output : Channel → List ℕ) → output (record { top = take w top; bot = take w bot }) ≡ ofPinList output text
+  pub escape : Escapes (rows (take w top) (take w bot))
+  pub output : (output : Channel → List ℕ) → output (rows (take w top) (take w bot)) ≡ ofPinList output text
 
 module _ (text : List ℕ) where
   -- an input over the limit
@@ -174,8 +174,8 @@ module _ (text : List ℕ) where
         unfolding botAfter filledUnless
         bot-front = rw (done .botHeld, long-rows, read-silent .0, filledUnless, read-silent .1, sym (escapes .even)) (overlay-front (textChannel text .bot) bot)
 
-        rows : _≡_ {A = Channel} (textChannel text) (record { top = take w top′; bot = take w bot′ })
-        rows = rw (top-front, bot-front)
+        same-rows : _≡_ {A = Channel} (textChannel text) (rows (take w top′) (take w bot′))
+        same-rows = rw (top-front, bot-front)
 
         pub read-rows : ReadRows text top′ bot′ w
         read-rows =
@@ -183,7 +183,7 @@ module _ (text : List ℕ) where
             let bot-size = read-silent .1 ∙ (sym (escapes .even) ∙ ap length (sym bot-front)) in
             let top-taken = length-take w top′ in
             let bot-taken = length-take w bot′ in
-            record { top-inside = omega arith; bot-inside = omega arith; top-size = top-size; bot-size = bot-size; escape = subst Escapes rows escapes; output = λ output. ap output (sym rows) ∙ pins-read output (read-silent .0) }
+            record { top-inside = omega arith; bot-inside = omega arith; top-size = top-size; bot-size = bot-size; escape = subst Escapes same-rows escapes; output = λ output. ap output (sym same-rows) ∙ pins-read output (read-silent .0) }
 
 -- rows that escape have bounds, and few tracks have a blank
 pub bounds-told : (ch : Channel) → Escapes ch → boundsAnswer ch ≡ bounds.Bounds (density ch) (chain ch)

@@ -6,6 +6,7 @@ ghost use lib.ListN.{length, take};
 ghost use lib.Seq.{sets};
 ghost use Rattle.io.specs.Counts.{Counts};
 ghost use Rattle.refusal.specs.Refusals.{placeOf};
+ghost use Rattle.channel.specs.Channel.{rows};
 ghost use Rattle.channel.specs.Answers.{Escapes};
 ghost use Rattle.report.specs.Lines.{refusalLines};
 ghost use Rattle.report.specs.Code.{listingText};
@@ -56,8 +57,8 @@ fn put_routed(
     tracks: u32,
     pieces: u32,
 ) -> usize
-    requires { ⌜ Escapes (record { top = now top; bot = now bot }) × (tracks ≤ 511) × (routing .count ≤ 511) × (65536 ≤ length (now out)) ⌝ }
-    ensures { λ r. ⌜ Wrote (now (out .entry)) (listingText (figuresOf (record { top = now (top .entry); bot = now (bot .entry) }) tracks pieces) (take (routing .count) (routing .records))) (now (out .exit)) r ⌝ }
+    requires { ⌜ Escapes (rows (now top) (now bot)) × (tracks ≤ 511) × (routing .count ≤ 511) × (65536 ≤ length (now out)) ⌝ }
+    ensures { λ r. ⌜ Wrote (now (out .entry)) (listingText (figuresOf (rows (now (top .entry)) (now (bot .entry))) tracks pieces) (take (routing .count) (routing .records))) (now (out .exit)) r ⌝ }
     ensures { λ r. ⌜ r ≤ 65536 ⌝ }
 {
     match channel::bounds(top, bot) {
@@ -82,8 +83,8 @@ fn put_routed(
 
 // The listing of a channel that is accepted, or refusal 7.
 fn list_channel(top: &[u32], bot: &[u32], out: &mut [u8]) -> usize
-    requires { ⌜ Escapes (record { top = now top; bot = now bot }) × (65536 ≤ length (now out)) ⌝ }
-    ensures { λ r. ⌜ Wrote (now (out .entry)) (ofFilled listing (record { top = now (top .entry); bot = now (bot .entry) })) (now (out .exit)) r ⌝ }
+    requires { ⌜ Escapes (rows (now top) (now bot)) × (65536 ≤ length (now out)) ⌝ }
+    ensures { λ r. ⌜ Wrote (now (out .entry)) (ofFilled listing (rows (now (top .entry)) (now (bot .entry)))) (now (out .exit)) r ⌝ }
     ensures { λ r. ⌜ r ≤ 65536 ⌝ }
 {
     let mut ring = [0u32; 1022];
@@ -123,8 +124,8 @@ pub fn listing_output(text: &[u8], out: &mut [u8]) -> usize
 
 // The board file of a channel that is accepted, or refusal 7.
 fn board_channel(top: &[u32], bot: &[u32], out: &mut [u8]) -> usize
-    requires { ⌜ Escapes (record { top = now top; bot = now bot }) × (65536 ≤ length (now out)) ⌝ }
-    ensures { λ r. ⌜ Wrote (now (out .entry)) (ofFilled boardBytes (record { top = now (top .entry); bot = now (bot .entry) })) (now (out .exit)) r ⌝ }
+    requires { ⌜ Escapes (rows (now top) (now bot)) × (65536 ≤ length (now out)) ⌝ }
+    ensures { λ r. ⌜ Wrote (now (out .entry)) (ofFilled boardBytes (rows (now (top .entry)) (now (bot .entry)))) (now (out .exit)) r ⌝ }
     ensures { λ r. ⌜ r ≤ 65536 ⌝ }
 {
     let mut ring = [0u32; 1022];
@@ -182,7 +183,7 @@ fn put_fault(out: &mut [u8], fault: Fault) -> usize
 // The line of a board judged against a channel that is accepted.
 fn judge_channel(top: &[u32], bot: &[u32], board: &[u8], out: &mut [u8]) -> usize
     requires { ⌜ 64 ≤ length (now out) ⌝ }
-    ensures { λ r. ⌜ Wrote (now (out .entry)) (judgedAgainst (now (board .entry)) (record { top = now (top .entry); bot = now (bot .entry) })) (now (out .exit)) r ⌝ }
+    ensures { λ r. ⌜ Wrote (now (out .entry)) (judgedAgainst (now (board .entry)) (rows (now (top .entry)) (now (bot .entry)))) (now (out .exit)) r ⌝ }
     ensures { λ r. ⌜ r ≤ 64 ⌝ }
 {
     if 65536 < board.len() {

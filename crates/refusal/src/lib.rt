@@ -1,6 +1,17 @@
 ghost use mathlib.Core.Path.{_≡_};
 ghost use Rattle.refusal.specs.Refusals.{numberOf, placeOf};
 
+// The lengths that lent buffers must have, asked by refusal 1: a row, the table of net records, the ring, the board file written, and the judge's scratch.
+pub const ROW_TRAY: usize = 512;
+
+pub const RECORD_TRAY: usize = 511;
+
+pub const RING_TRAY: usize = 1022;
+
+pub const BOARD_TRAY: usize = 10240;
+
+pub const SCRATCH_TRAY: usize = 10238;
+
 // The refusals that an operation may answer, by the shop's words, each with its place.
 // The judge's faults, numbers 11 to 13, are an enum of their own beside the judge.
 pub enum Refusal {

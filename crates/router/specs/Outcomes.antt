@@ -14,8 +14,8 @@ use Rattle.refusal.specs.declared.Refusal.the-variants as refusal
 use Rattle.refusal.specs.Refusals.{numberOf, refuseIf, refuseAtFirst, _or-else_, answered}
 use Rattle.refusal.specs.ChainLaws.{or-else-some, refuse-if-some, refuse-at-first-some}
 use Rattle.refusal.specs.Trays.{ringTray, boardTray}
-use Rattle.channel.specs.declared.RowsAnswer.the-variants as rows
-use Rattle.channel.specs.Channel.{Channel, width, spanning}
+use Rattle.channel.specs.declared.RowsAnswer.the-variants as checking
+use Rattle.channel.specs.Channel.{Channel, width, spanning, rows}
 use Rattle.channel.specs.BoundLaws.{refused→some}
 use Rattle.channel.specs.Answers.{tooWide, uneven, highNet, lonePin, rowsRefusal, rowsAnswer, Escapes}
 use Rattle.channel.specs.Spans.{each512, firsts, lasts}
@@ -90,7 +90,7 @@ module _ (ch : Channel) (esc : Escapes ch) where
 
 module _ (ch : Channel) (ring board : List ℕ) (hr : ringTray ≤ length ring) (hb : boardTray ≤ length board) where
   -- the rows are refused
-  pub rows-held : (r : Routing) (q : Refusal) → rowsAnswer ch ≡ rows.Refused q → r .answer ≡ route.Refused q → r .count ≡ 0 → Held ch ring board r ring board
+  pub rows-held : (r : Routing) (q : Refusal) → rowsAnswer ch ≡ checking.Refused q → r .answer ≡ route.Refused q → r .count ≡ 0 → Held ch ring board r ring board
   unfolding rowsAnswer
   rows-held r q e a n =
       let said = refused→some (rowsRefusal ch) q e in

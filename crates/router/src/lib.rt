@@ -3,6 +3,7 @@ ghost use mathlib.Core.Path.{_≡_};
 ghost use mathlib.Core.List.{[], _∷_, _++_};
 ghost use Prim.Native.Nat.{_+_, _≤_, _<_};
 ghost use lib.ListN.{length, take};
+ghost use Rattle.channel.specs.Channel.{rows};
 ghost use Rattle.channel.specs.Answers.{Escapes};
 ghost use Rattle.lists.specs.Lists.{overlay};
 ghost use Rattle.router.specs.Route.{routeTraysWithRecords};
@@ -88,9 +89,9 @@ fn refused(refusal: Refusal) -> Routing
 
 // Routes a channel that escapes refusals 3 to 6, with the buffers that it needs.
 fn route_checked(top: &[u32], bot: &[u32], ring: &mut [u32], board: &mut [u8]) -> Routing
-    requires { ⌜ Escapes (record { top = now top; bot = now bot }) × (1022 ≤ length (now ring)) × (10240 ≤ length (now board)) ⌝ }
+    requires { ⌜ Escapes (rows (now top) (now bot)) × (1022 ≤ length (now ring)) × (10240 ≤ length (now board)) ⌝ }
     ensures { λ r.
-        ⌜ Held (record { top = now (top .entry); bot = now (bot .entry) }) (now (ring .entry)) (now (board .entry)) r (now (ring .exit)) (now (board .exit)) ⌝ }
+        ⌜ Held (rows (now (top .entry)) (now (bot .entry))) (now (ring .entry)) (now (board .entry)) r (now (ring .exit)) (now (board .exit)) ⌝ }
 {
     let spans = channel::find_spans(top, bot);
     let first = spans.first;
@@ -122,7 +123,7 @@ fn route_checked(top: &[u32], bot: &[u32], ring: &mut [u32], board: &mut [u8]) -
 // Routes rows of any lengths and numbers, with the records by value: refusals 1, of the buffers lent, and 3 to 7.
 fn route_by_value(top: &[u32], bot: &[u32], ring: &mut [u32], board: &mut [u8]) -> Routing
     ensures { λ r.
-        ⌜ Held (record { top = now (top .entry); bot = now (bot .entry) }) (now (ring .entry)) (now (board .entry)) r (now (ring .exit)) (now (board .exit)) ⌝ }
+        ⌜ Held (rows (now (top .entry)) (now (bot .entry))) (now (ring .entry)) (now (board .entry)) r (now (ring .exit)) (now (board .exit)) ⌝ }
 {
     if ring.len() < 1022 {
         return refused(Refusal::ShortTray(1022));
@@ -145,7 +146,7 @@ fn route_with_room(
     board: &mut [u8],
 ) -> Routing
     ensures { λ r.
-        ⌜ HeldBy (routeTraysWithRecords room (length (now (ring .entry))) (length (now (board .entry)))) (record { top = now (top .entry); bot = now (bot .entry) }) (now (ring .entry)) (now (board .entry)) r (now (ring .exit)) (now (board .exit)) ⌝ }
+        ⌜ HeldBy (routeTraysWithRecords room (length (now (ring .entry))) (length (now (board .entry)))) (rows (now (top .entry)) (now (bot .entry))) (now (ring .entry)) (now (board .entry)) r (now (ring .exit)) (now (board .exit)) ⌝ }
 {
     if room < 511 {
         return refused(Refusal::ShortTray(511));
@@ -203,7 +204,7 @@ pub fn route(
     board: &mut [u8],
 ) -> Routed
     ensures { λ r.
-        ⌜ RouteDone (record { top = now (top .entry); bot = now (bot .entry) }) (now (records .entry)) (now (ring .entry)) (now (board .entry)) r (now (records .exit)) (now (ring .exit)) (now (board .exit)) ⌝ }
+        ⌜ RouteDone (rows (now (top .entry)) (now (bot .entry))) (now (records .entry)) (now (ring .entry)) (now (board .entry)) r (now (records .exit)) (now (ring .exit)) (now (board .exit)) ⌝ }
 {
     let routing = route_with_room(top, bot, records.len(), ring, board);
     store_records(records, routing.records, routing.count);
@@ -213,7 +214,7 @@ pub fn route(
 // Routes with a table of its own, for callers that want the records by value: `route` over a table that it lends.
 pub fn route_rows(top: &[u32], bot: &[u32], ring: &mut [u32], board: &mut [u8]) -> Routing
     ensures { λ r.
-        ⌜ RowsDone (record { top = now (top .entry); bot = now (bot .entry) }) (now (ring .entry)) (now (board .entry)) r (now (ring .exit)) (now (board .exit)) ⌝ }
+        ⌜ RowsDone (rows (now (top .entry)) (now (bot .entry))) (now (ring .entry)) (now (board .entry)) r (now (ring .exit)) (now (board .exit)) ⌝ }
 {
     let mut table = blank_records();
     let routed = route(top, bot, &mut table, ring, board);

@@ -2,6 +2,7 @@
 // the upper and its place in the lower; a place over 4,294,967,295 is shown as that. screen/channel.h documents them for C.
 ghost use mathlib.Core.Path.{_≡_};
 ghost use Prim.Native.Nat.{_≤_};
+ghost use Rattle.channel.specs.Channel.{rows};
 ghost use Rattle.channel.specs.Answers.{boundsAnswer};
 ghost use Rattle.blanks.specs.Stock.{blankAnswer};
 ghost use Rattle.judge.specs.Answers.{faultNumber, faultPlace};
@@ -50,7 +51,7 @@ pub extern "C" fn cabjirt_read(text: &[u8], top: &mut [u32], bot: &mut [u32]) ->
 #[no_mangle]
 pub extern "C" fn cabjirt_bounds(top: &[u32], bot: &[u32]) -> u64
     ensures { λ r.
-        ⌜ r ≡ boundsNumber (boundsAnswer (record { top = now (top .entry); bot = now (bot .entry) })) ⌝ }
+        ⌜ r ≡ boundsNumber (boundsAnswer (rows (now (top .entry)) (now (bot .entry)))) ⌝ }
 {
     match channel::bounds(top, bot) {
         BoundsAnswer::Bounds { density, chain } => density as u64 * 65536 + chain as u64,
@@ -63,7 +64,7 @@ pub extern "C" fn cabjirt_bounds(top: &[u32], bot: &[u32]) -> u64
 #[no_mangle]
 pub extern "C" fn cabjirt_route(top: &[u32], bot: &[u32], ring: &mut [u32], board: &mut [u8]) -> u64
     ensures { λ r.
-        ⌜ RouteEntry (record { top = now (top .entry); bot = now (bot .entry) }) (now (ring .entry)) (now (board .entry)) r (now (ring .exit)) (now (board .exit)) ⌝ }
+        ⌜ RouteEntry (rows (now (top .entry)) (now (bot .entry))) (now (ring .entry)) (now (board .entry)) r (now (ring .exit)) (now (board .exit)) ⌝ }
 {
     let routing = router::route_rows(top, bot, ring, board);
     let answer = routing.answer;
@@ -77,7 +78,7 @@ pub extern "C" fn cabjirt_route(top: &[u32], bot: &[u32], ring: &mut [u32], boar
 #[no_mangle]
 pub extern "C" fn cabjirt_judge(top: &[u32], bot: &[u32], board: &[u8], scratch: &mut [u32]) -> u64
     ensures { λ r.
-        ⌜ JudgeEntry (record { top = now (top .entry); bot = now (bot .entry) }) (now (board .entry)) (now (scratch .entry)) r (now (scratch .exit)) ⌝ }
+        ⌜ JudgeEntry (rows (now (top .entry)) (now (bot .entry))) (now (board .entry)) (now (scratch .entry)) r (now (scratch .exit)) ⌝ }
 {
     match judge::judge(top, bot, board, scratch) {
         JudgeAnswer::Good(tracks) => tracks as u64,

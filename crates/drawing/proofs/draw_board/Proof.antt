@@ -8,7 +8,7 @@ use denote.Ref.{now}
 use lib.ListN.{length}
 use lib.Seq.{length-sets}
 use Rattle.lists.specs.Lists.{each}
-use Rattle.channel.specs.Channel.{Channel}
+use Rattle.channel.specs.Channel.{Channel, rows}
 use Rattle.drawing.specs.Prefixes.{below}
 use Rattle.drawing.specs.Putting.{Put, put-length, put-same, next-put, next-passed}
 use Rattle.drawing.specs.Code.{drawnBy}
@@ -18,7 +18,7 @@ use Rattle.drawing.proofs.draw_board.Tie as tie
 
 abbrev Inv-loop : tie.InvT-loop
 Inv-loop top bot first last tracks t board₀ count₀ n₀ board count n =
-    let ch : Channel = record { top = top; bot = bot } in
+    let ch : Channel = rows top bot in
     (1 ≤ n) × (n ≤ 512) × Put board₀ board 0 count (each (drawnNet ch tracks t) (below (counted ch) n))
 
 abbrev μ-loop : tie.MeasureT-loop
@@ -84,7 +84,7 @@ cast-put-header c = let narrow = c .before .before .before .before .before .befo
 -- all nets are drawn where the loop ends
 ended : (c : tie.After-put-header-arg Inv-loop μ-loop) →
     let a = c .before .before .before .before .before .before .args in
-    Put (now (a .board)) (c .before .before .loop .board) 0 (c .before .before .loop .count) (drawnBy (record { top = now (a .top); bot = now (a .bot) }) (now (a .tracks)) (a .t) .pieces)
+    Put (now (a .board)) (c .before .before .loop .board) 0 (c .before .before .loop .count) (drawnBy (rows (now (a .top)) (now (a .bot))) (now (a .tracks)) (a .t) .pieces)
 ended c = let pre = c .before .before .before .before .before .before .pre in drawing-ended _ _ _ (pre .0) (pre .3) _ (c .before .before .loop .inv .2) (omega arith)
 
 put-header-requires : tie.Need-put-header-requires Inv-loop μ-loop

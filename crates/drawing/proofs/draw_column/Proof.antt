@@ -7,6 +7,7 @@ use borrow.Author.Needs.{needs}
 use Rattle.grid.specs.declared.Piece.the-variants.{Branch, Contact}
 use Rattle.drawing.specs.Draw.{drawColumn}
 use Rattle.drawing.specs.Putting.{Room, Put, put-then, room-first, room-rest}
+use Rattle.channel.specs.Channel.{rows}
 use Rattle.drawing.specs.CodeLaws.{column-array}
 use Rattle.drawing.proofs.draw_column.Statement.{statement}
 use Rattle.drawing.proofs.draw_column.Tie as tie
@@ -41,10 +42,10 @@ end-row-requires-2 c κs = search needs
 -- the column's two pieces, as the code makes them
 drawn : (c : tie.After-end-row2) →
     let a = c .before .before .before .before .before .before .before .before .args in
-    drawColumn (record { top = now (a .top); bot = now (a .bot) }) (a .t) (a .k .0) (a .n .0) (a .c .0) ≡ Branch (a .c) (c .before .before .end-row .result) (c .end-row2 .result) ∷ (Contact (a .c) (a .k) ∷ [])
+    drawColumn (rows (now (a .top)) (now (a .bot))) (a .t) (a .k .0) (a .n .0) (a .c .0) ≡ Branch (a .c) (c .before .before .end-row .result) (c .end-row2 .result) ∷ (Contact (a .c) (a .k) ∷ [])
 drawn c =
     let a = c .before .before .before .before .before .before .before .before .args in
-    column-array (record { top = now (a .top); bot = now (a .bot) }) (a .n .0) (a .c .0) (omega arith) (a .t) (a .k .0) (c .before .before .end-row .result) (c .end-row2 .result) (c .before .before .end-row .ensures) (c .end-row2 .ensures)
+    column-array (rows (now (a .top)) (now (a .bot))) (a .n .0) (a .c .0) (omega arith) (a .t) (a .k .0) (c .before .before .end-row .result) (c .end-row2 .result) (c .before .before .end-row .ensures) (c .end-row2 .ensures)
 
 put-requires : tie.Need-put-requires
 put-requires c κs = room-first _ (subst (Room _ _) (drawn (c .before)) (c .before .before .before .before .before .before .before .before .before .pre .4))

@@ -6,7 +6,7 @@ use mathlib.Core.Path.{_≡_, sym, _∙_, subst, subst⁻¹}
 use mathlib.Core.Logic.{⊎-elim}
 use denote.Ref.{now}
 use Rattle.lists.specs.Lists.{each}
-use Rattle.channel.specs.Channel.{Channel, pinColumns}
+use Rattle.channel.specs.Channel.{Channel, pinColumns, rows}
 use Rattle.drawing.specs.Draw.{drawColumn}
 use Rattle.drawing.specs.Prefixes.{below}
 use Rattle.drawing.specs.Putting.{Room, Put, put-length, put-then, put-same, room-first, room-rest, next-put, next-passed}
@@ -17,7 +17,7 @@ use Rattle.drawing.proofs.draw_span.Tie as tie
 
 abbrev Inv-loop : tie.InvT-loop
 Inv-loop board₀ count top bot n k t last drawn₀ c₀ board drawn c =
-    let ch : Channel = record { top = top; bot = bot } in
+    let ch : Channel = rows top bot in
     (t ≤ 511)
     × StandsIn ch (n .0) c₀ (last .0)
     × Room board₀ drawn₀ (each (drawColumn ch t (k .0) (n .0)) (pinColumns ch (n .0)))
@@ -47,7 +47,7 @@ has-pin-requires c κs =
 -- what `has_pin` answered
 told : (c : tie.After-has-pin Inv-loop μ-loop) →
     let a = c .before .before .before .before .before .before .before .before .before .before .before .args in
-    c .has-pin .result ≡ hasPin (record { top = now (a .top); bot = now (a .bot) }) (a .n .0) (c .before .before .before .loop .c)
+    c .has-pin .result ≡ hasPin (rows (now (a .top)) (now (a .bot))) (a .n .0) (c .before .before .before .loop .c)
 told c = c .has-pin .ensures
 
 draw-column-requires : tie.Need-draw-column-requires Inv-loop μ-loop

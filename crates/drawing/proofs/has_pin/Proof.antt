@@ -3,6 +3,7 @@ use native.Mathlib.Omega.{arith}
 use mathlib.Core.Path.{sym}
 use denote.Ref.{now}
 use borrow.Author.Needs.{needs}
+use Rattle.channel.specs.Channel.{rows}
 use Rattle.drawing.specs.CodeLaws.{has-pin-array}
 use Rattle.drawing.proofs.has_pin.Statement.{statement}
 use Rattle.drawing.proofs.has_pin.Tie as tie
@@ -28,7 +29,7 @@ shared-slice-read-result-2 c = search needs
 returns : tie.Need-returns
 returns c =
     let a = c .before .before .before .before .before .args in
-    sym (has-pin-array (record { top = now (a .top); bot = now (a .bot) }) (a .n .0) (a .c .0) (omega arith))
+    sym (has-pin-array (rows (now (a .top)) (now (a .bot))) (a .n .0) (a .c .0) (omega arith))
 
 pub has-pin-spec : {M : Type 1} → statement M
 has-pin-spec =

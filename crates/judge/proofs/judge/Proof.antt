@@ -5,8 +5,8 @@ use mathlib.Core.Path.{_≡_, refl, sym, _∙_}
 use mathlib.Core.List.{List}
 use lib.ListN.{length}
 use denote.Ref.{now}
-use Rattle.channel.specs.declared.RowsAnswer.the-variants as rows
-use Rattle.channel.specs.Channel.{Channel}
+use Rattle.channel.specs.declared.RowsAnswer.the-variants as checking
+use Rattle.channel.specs.Channel.{Channel, rows}
 use Rattle.channel.specs.Answers.{rowsAnswer}
 use Rattle.judge.specs.JudgeSteps.{BoardOpen, board-open, answer-short, answer-rows, answer-open, answer-width, answer-found, pieces-ready, judged-well}
 use Rattle.judge.proofs.judge.Statement.{statement}
@@ -14,7 +14,7 @@ use Rattle.judge.proofs.judge.Tie as tie
 
 -- the rows as a channel, the board and the length of scratch
 abbrev rows-of : tie.Start → Channel
-rows-of c = record { top = now (c .args .top); bot = now (c .args .bot) }
+rows-of c = rows (now (c .args .top)) (now (c .args .bot))
 
 abbrev board-of : tie.Start → List ℕ
 board-of c = now (c .args .board)
@@ -23,7 +23,7 @@ abbrev lent : tie.Start → ℕ
 lent c = length (now (c .args .scratch))
 
 -- past the rows, and past the file
-accepted : (c : tie.After-enum-told) → rows.Accepted ≡ rowsAnswer (rows-of (c .before .before .before .before .before .before .before .before))
+accepted : (c : tie.After-enum-told) → checking.Accepted ≡ rowsAnswer (rows-of (c .before .before .before .before .before .before .before .before))
 accepted c = sym (c .enum-told .given .1) ∙ c .before .before .check .ensures
 
 board-opened : (c : tie.After-width) → BoardOpen (board-of (c .before .before .before .before .before .before .before .before .before .before .before)) (c .width .given .0 .0) (c .width .given .0 .1 .0) (c .width .given .0 .1 .1 .0)

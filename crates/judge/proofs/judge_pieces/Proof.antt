@@ -2,7 +2,7 @@
 use borrow.Author.Needs.{needs}
 use mathlib.Core.Path.{refl, sym, _∙_}
 use denote.Ref.{now}
-use Rattle.channel.specs.Channel.{Channel}
+use Rattle.channel.specs.Channel.{Channel, rows}
 use Rattle.boardfile.specs.Open.{fileLayout}
 use Rattle.judge.specs.Finding.{finding}
 use Rattle.judge.specs.JudgeSteps.{file-long, mark-ready, room-kept, fault-ready, file-marks, file-pieces, found-nothing, found-fault}
@@ -12,7 +12,7 @@ use Rattle.judge.proofs.judge_pieces.Tie as tie
 read-words-requires : tie.Need-read-words-requires
 read-words-requires c κs =
     let a = c .before .before .before .before .before .args in
-    let ch : Channel = record { top = now (a .top); bot = now (a .bot) } in
+    let ch : Channel = rows (now (a .top)) (now (a .bot)) in
     let board = now (a .board) in
     let ready = c .before .before .before .before .before .pre in
     let long = file-long ch board (now (a .scratch)) (a .tracks) (a .count) ready in
@@ -21,7 +21,7 @@ read-words-requires c κs =
 mark-classes-requires : tie.Need-mark-classes-requires
 mark-classes-requires c κs =
     let a = c .before .before .before .before .before .before .before .before .args in
-    let ch : Channel = record { top = now (a .top); bot = now (a .bot) } in
+    let ch : Channel = rows (now (a .top)) (now (a .bot)) in
     let board = now (a .board) in
     let ready = c .before .before .before .before .before .before .before .before .pre in
     let words = c .before .before .read-words .last .1 .1 .0 in
@@ -31,7 +31,7 @@ mark-classes-requires c κs =
 find-fault-requires : tie.Need-find-fault-requires
 find-fault-requires c κs =
     let a = c .before .before .before .before .before .before .before .before .before .before .before .before .args in
-    let ch : Channel = record { top = now (a .top); bot = now (a .bot) } in
+    let ch : Channel = rows (now (a .top)) (now (a .bot)) in
     let board = now (a .board) in
     let ready = c .before .before .before .before .before .before .before .before .before .before .before .before .pre in
     let words = c .before .before .before .before .before .before .read-words .last .1 .1 .0 in
@@ -52,7 +52,7 @@ same-length c = search needs
 returns : tie.Need-returns
 returns c =
     let a = c .before .before .before .before .before .before .before .before .before .before .before .before .before .before .before .args in
-    let ch : Channel = record { top = now (a .top); bot = now (a .bot) } in
+    let ch : Channel = rows (now (a .top)) (now (a .bot)) in
     let board = now (a .board) in
     let ready = c .before .before .before .before .before .before .before .before .before .before .before .before .before .before .before .pre in
     let words = c .before .before .before .before .before .before .before .before .before .read-words .last .1 .1 .0 in
@@ -68,7 +68,7 @@ same-length-2 c = search needs
 returns-2 : tie.Need-returns-2
 returns-2 c =
     let a = c .before .before .before .before .before .before .before .before .before .before .before .before .before .before .before .before .args in
-    let ch : Channel = record { top = now (a .top); bot = now (a .bot) } in
+    let ch : Channel = rows (now (a .top)) (now (a .bot)) in
     let board = now (a .board) in
     let ready = c .before .before .before .before .before .before .before .before .before .before .before .before .before .before .before .before .pre in
     let words = c .before .before .before .before .before .before .before .before .before .before .read-words .last .1 .1 .0 in

@@ -6,14 +6,14 @@ use denote.Ref.{now}
 use borrow.Author.Needs.{needs}
 use Rattle.channel.specs.Constraints.{chain}
 use Rattle.channel.specs.Density.{density}
-use Rattle.channel.specs.Channel.{Channel}
+use Rattle.channel.specs.Channel.{Channel, rows}
 use Rattle.blanks.specs.Stock.{smallestFor, stock}
 use Rattle.programs.specs.CodeLaws.{bounds-told, blank-told}
 use Rattle.programs.proofs.put_routed.Statement.{statement}
 use Rattle.programs.proofs.put_routed.Tie as tie
 
 abbrev channel : tie.Start → Channel
-channel c = record { top = now (c .args .top); bot = now (c .args .bot) }
+channel c = rows (now (c .args .top)) (now (c .args .bot))
 
 bounds-requires : tie.Need-bounds-requires
 bounds-requires c κs = search needs

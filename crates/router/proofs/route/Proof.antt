@@ -49,7 +49,7 @@ use denote.Triple.Walked.{says, Stays, stay-dropped, gave-slice, walkOf, goes-dr
 use denote.Exit.{yes}
 use denote.Triple.Clauses.{ensured, lasts}
 use Rattle.lists.specs.Lists.{overlay}
-use Rattle.channel.specs.Channel.{Channel}
+use Rattle.channel.specs.Channel.{Channel, rows}
 use Rattle.leftedge.specs.declared.NetRecord.{NetRecord}
 use Rattle.leftedge.proofs.NetRecord as N
 use Rattle.router.specs.declared.Routing.{Routing}
@@ -123,7 +123,7 @@ module _ {M : Type 1} (𝓤 : URA M) (H : Heap 𝓤) (A : Atoms 𝓤) (W : Given
   vals = (slice-vals top, (slice-vals bot, (slice-vals records, (slice-vals ring, (slice-vals board, tt)))))
 
   abbrev ch : Channel
-  ch = record { top = now top; bot = now bot }
+  ch = rows (now top) (now bot)
 
   abbrev Post : Val → SProp 𝓤
   Post = walkOf 𝓤 H A route.ended stayed (route.clauses 𝓤 H A mem run) .post ((κs, qs, tt, a, vals), tt)

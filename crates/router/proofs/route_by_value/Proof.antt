@@ -4,7 +4,7 @@ use native.Mathlib.Omega.{arith}
 use mathlib.Core.Path.{sym, _∙_}
 use borrow.Author.Needs.{needs}
 use Rattle.refusal.specs.declared.Refusal.the-variants.{ShortTray}
-use Rattle.channel.specs.Channel.{Channel}
+use Rattle.channel.specs.Channel.{Channel, rows}
 use Rattle.channel.specs.BoundLaws.{accepted→escapes}
 use lib.ListN.{length}
 use Rattle.router.specs.Route.{routeTrays}
@@ -17,7 +17,7 @@ abbrev begun : tie.After-slice-known2 → tie.Start
 begun c = c .before .before .before .before
 
 abbrev channel : tie.Start → Channel
-channel c = record { top = c .args .top .now; bot = c .args .bot .now }
+channel c = rows (c .args .top .now) (c .args .bot .now)
 
 refused-requires : tie.Need-refused-requires
 refused-requires c κs = search needs

@@ -2,13 +2,13 @@
 -- (`placed-tracked`), and `routed-held` closes from what the drawing and the table answer. Assumes nothing.
 use mathlib.Core.Path.{refl}
 use borrow.Author.Needs.{needs}
-use Rattle.channel.specs.Channel.{Channel}
+use Rattle.channel.specs.Channel.{Channel, rows}
 use Rattle.router.specs.Outcomes.{placed→, placed-tracked, tangled-held, routed-held}
 use Rattle.router.proofs.route_checked.Statement.{statement}
 use Rattle.router.proofs.route_checked.Tie as tie
 
 abbrev channel : tie.Start → Channel
-channel c = record { top = c .args .top .now; bot = c .args .bot .now }
+channel c = rows (c .args .top .now) (c .args .bot .now)
 
 abbrev begun : tie.After-find-spans → tie.Start
 begun c = c .before .before .before .before .before

@@ -44,7 +44,7 @@ use denote.Triple.Table.{entered, cited}
 use denote.Triple.Walked.{says, Stays, stay-none-slice, gave-slice, walkOf, goes-none-slice, goes-gave-slice, Walks, ends-at, walked, walk-meets}
 use denote.Exit.{yes}
 use denote.Signature.{plain}
-use Rattle.channel.specs.Channel.{Channel}
+use Rattle.channel.specs.Channel.{Channel, rows}
 use Rattle.leftedge.specs.declared.NetRecord.{NetRecord}
 use Rattle.leftedge.proofs.NetRecord as N
 use Rattle.leftedge.proofs.NetRecord.Laws as N′
@@ -121,7 +121,7 @@ module _ {M : Type 1} (𝓤 : URA M) (H : Heap 𝓤) (A : Atoms 𝓤) (W : Given
   Post = walkOf 𝓤 H A route-rows.ended stayed (route-rows.clauses 𝓤 H A mem run) .post ((κs, qs, tt, a, vals), tt)
 
   abbrev ch : Channel
-  ch = record { top = top .now; bot = bot .now }
+  ch = rows (top .now) (bot .now)
 
   -- the tokens, what the parameters own, and what of them is had to the end
   abbrev Tokens : Item 𝓤

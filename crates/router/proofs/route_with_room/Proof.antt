@@ -4,7 +4,7 @@ use native.Mathlib.Omega.{arith}
 use lib.ListN.{length}
 use borrow.Author.Needs.{needs}
 use Rattle.refusal.specs.declared.Refusal.the-variants.{ShortTray}
-use Rattle.channel.specs.Channel.{Channel}
+use Rattle.channel.specs.Channel.{Channel, rows}
 use Rattle.router.specs.Route.{routeTraysWithRecords}
 use Rattle.router.specs.CodeLaws.{refused-held}
 use Rattle.router.specs.LentLaws.{short-table, widened}
@@ -12,7 +12,7 @@ use Rattle.router.proofs.route_with_room.Statement.{statement}
 use Rattle.router.proofs.route_with_room.Tie as tie
 
 abbrev channel : tie.Start → Channel
-channel c = record { top = c .args .top .now; bot = c .args .bot .now }
+channel c = rows (c .args .top .now) (c .args .bot .now)
 
 refused-requires : tie.Need-refused-requires
 refused-requires c κs = search needs

@@ -1,18 +1,18 @@
 -- `channel::chain::bounds` meets its contract: rows that the check accepts escape the refusals, which is what the callees ask; then the answer is the density and the chain (`bounds-accepted`), and else the refusal of the check (`bounds-refused`).
 use mathlib.Core.Path.{_≡_, sym, _∙_, ap₂}
 use borrow.Author.Needs.{needs}
-use Rattle.channel.specs.declared.RowsAnswer.the-variants as rows
+use Rattle.channel.specs.declared.RowsAnswer.the-variants as checking
 use Rattle.channel.specs.declared.BoundsAnswer.the-variants as answers
-use Rattle.channel.specs.Channel.{Channel}
+use Rattle.channel.specs.Channel.{Channel, rows}
 use Rattle.channel.specs.Answers.{rowsAnswer}
 use Rattle.channel.specs.BoundLaws.{accepted→escapes, bounds-accepted, bounds-refused}
 use Rattle.channel.proofs.chain.bounds.Statement.{statement}
 use Rattle.channel.proofs.chain.bounds.Tie as tie
 
 abbrev channel : tie.Start → Channel
-channel c = record { top = c .args .top .now; bot = c .args .bot .now }
+channel c = rows (c .args .top .now) (c .args .bot .now)
 
-accepted : (c : tie.After-enum-told) → rowsAnswer (channel (c .before .before .before .before .before)) ≡ rows.Accepted
+accepted : (c : tie.After-enum-told) → rowsAnswer (channel (c .before .before .before .before .before)) ≡ checking.Accepted
 accepted c = sym (c .before .before .check .ensures) ∙ c .enum-told .given .1
 
 check-requires : tie.Need-check-requires

@@ -6,7 +6,7 @@ use Prim.Native.Nat.{ℕ, _+_, _≤_, _-_}
 use native.Mathlib.Omega.{arith}
 use lib.ListN.{length, getD}
 use borrow.Author.Tests.{eqb-true, eqb-false, not-true, not-false}
-use Rattle.channel.specs.Channel.{Channel, highestNet}
+use Rattle.channel.specs.Channel.{Channel, highestNet, rows}
 use Rattle.channel.specs.Constraints.{Above}
 use Rattle.channel.specs.Spans.{each512}
 use Rattle.channel.specs.Depths.{deeperOver}
@@ -15,13 +15,13 @@ use Rattle.channel.proofs.chain.deeper.Statement.{statement}
 use Rattle.channel.proofs.chain.deeper.Tie as tie
 
 abbrev Inv-loop : tie.InvT-loop
-Inv-loop top bot old new₀ i₀ new i = (i ≤ length top) × (new ≡ each512 (deeperOver (record { top = top; bot = bot }) old i))
+Inv-loop top bot old new₀ i₀ new i = (i ≤ length top) × (new ≡ each512 (deeperOver (rows top bot) old i))
 
 abbrev μ-loop : tie.MeasureT-loop
 μ-loop top bot old new₀ i₀ new i = length top - i
 
 abbrev channel : tie.Start Inv-loop μ-loop → Channel
-channel s = record { top = s .args .top .now; bot = s .args .bot .now }
+channel s = rows (s .args .top .now) (s .args .bot .now)
 
 module _ (c : tie.Then3 Inv-loop μ-loop) where
   abbrev at-loop : tie.At-loop Inv-loop μ-loop

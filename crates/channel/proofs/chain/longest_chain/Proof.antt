@@ -6,7 +6,7 @@ use native.Mathlib.Omega.{arith}
 use native.Mathlib.Numerals.{add-one}
 use lib.ListN.{length, getD}
 use mathlib.Core.List.{List}
-use Rattle.channel.specs.Channel.{Channel, width, highestNet, nets}
+use Rattle.channel.specs.Channel.{Channel, width, highestNet, nets, rows}
 use Rattle.channel.specs.Depths.{filledTo, deeperOver}
 use Rattle.channel.specs.ChainLaws.{deepest, chain-counts, chain-overruns}
 use Rattle.channel.specs.Spans.{each512, depths}
@@ -15,13 +15,13 @@ use Rattle.channel.proofs.chain.longest_chain.Statement.{statement}
 use Rattle.channel.proofs.chain.longest_chain.Tie as tie
 
 abbrev Inv-loop : tie.InvT-loop
-Inv-loop top bot first last nets depth₀ rounds₀ depth rounds = (rounds ≤ nets + 1) × (depth ≡ depths rounds (record { top = top; bot = bot }))
+Inv-loop top bot first last nets depth₀ rounds₀ depth rounds = (rounds ≤ nets + 1) × (depth ≡ depths rounds (rows top bot))
 
 abbrev μ-loop : tie.MeasureT-loop
 μ-loop top bot first last nets depth₀ rounds₀ depth rounds = nets + 1 - rounds
 
 abbrev channel : tie.Start Inv-loop μ-loop → Channel
-channel s = record { top = s .args .top .now; bot = s .args .bot .now }
+channel s = rows (s .args .top .now) (s .args .bot .now)
 
 -- the number of nets, in the loop and after it
 module _ (c : tie.At-loop Inv-loop μ-loop) where

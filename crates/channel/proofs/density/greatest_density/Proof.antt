@@ -5,7 +5,7 @@ use native.Mathlib.Omega.{arith}
 use mathlib.Core.Path.{_≡_, sym, _∙_, ap}
 use mathlib.Core.Logic.{⊎-elim}
 use lib.ListN.{length, getD}
-use Rattle.channel.specs.Channel.{Channel, width}
+use Rattle.channel.specs.Channel.{Channel, width, rows}
 use Rattle.channel.specs.Starts.{startingList}
 use Rattle.channel.specs.StartLaws.{ColumnPins, starting-among, ending-among}
 use Rattle.channel.specs.DensityLaws.{netsOver}
@@ -16,14 +16,14 @@ use Rattle.channel.proofs.density.greatest_density.Tie as tie
 
 abbrev Inv-loop : tie.InvT-loop
 Inv-loop top bot first last carried₀ most₀ i₀ carried most i =
-    (i ≤ length top) × (carried ≡ length (carriedOn (record { top = top; bot = bot }) i)) × (most ≡ densityTo (record { top = top; bot = bot }) i)
+    (i ≤ length top) × (carried ≡ length (carriedOn (rows top bot) i)) × (most ≡ densityTo (rows top bot) i)
 
 abbrev μ-loop : tie.MeasureT-loop
 μ-loop top bot first last carried₀ most₀ i₀ carried most i = length top - i
 
 -- the channel, and the column of a turn
 abbrev channel : tie.At-loop Inv-loop μ-loop → Channel
-channel c = record { top = c .before .before .before .args .top .now; bot = c .before .before .before .args .bot .now }
+channel c = rows (c .before .before .before .args .top .now) (c .before .before .before .args .bot .now)
 
 column : (c : tie.In-loop Inv-loop μ-loop) → ColumnPins (channel (c .before)) (c .before .before .before .before .args .first .now) (c .before .before .before .before .args .last .now) (getD (channel (c .before) .top) (c .before .loop .i) 0) (getD (channel (c .before) .bot) (c .before .loop .i) 0) (c .before .loop .i + 1)
 column c =

@@ -8,7 +8,7 @@ use mathlib.Core.Logic.{inl, inr, ⊎-elim}
 use borrow.Author.Needs.{needs}
 use borrow.Author.Tests.{ltb-true, ltb-false}
 use lib.ListN.{length, getD}
-use Rattle.channel.specs.Channel.{Channel}
+use Rattle.channel.specs.Channel.{Channel, rows}
 use Rattle.channel.specs.Rows.{tally, firstLone}
 use Rattle.channel.specs.RowLaws.{zeros, zeros-within, counts-within, first-high-left, first-high-right, first-high-most}
 use Rattle.channel.specs.AnswerLaws.{Narrow, Even, Low, answer-wide, answer-uneven, answer-high, answer-lone, answer-accepted}
@@ -16,16 +16,16 @@ use Rattle.channel.proofs.rows.check.Statement.{statement}
 use Rattle.channel.proofs.rows.check.Tie as tie
 
 -- the rows as a channel, before the first test, past refusal 4 and past refusal 5
-abbrev rows : tie.After-shared-slice-known2 → Channel
-rows c = let start = c .before .before in record { top = start .args .top .now; bot = start .args .bot .now }
+abbrev given : tie.After-shared-slice-known2 → Channel
+given c = let start = c .before .before in rows (start .args .top .now) (start .args .bot .now)
 
 abbrev even-rows : tie.Else5 → Channel
-even-rows c = rows (c .before .before .before .before)
+even-rows c = given (c .before .before .before .before)
 
 abbrev low-rows : tie.Else7 → Channel
 low-rows c = even-rows (c .before .before .before .before)
 
-narrow : (c : tie.Else2) → Narrow (rows (c .before .before))
+narrow : (c : tie.Else2) → Narrow (given (c .before .before))
 narrow c = record { top-narrow = omega arith; bot-narrow = omega (arith, ltb-false) }
 
 even : (c : tie.Else5) → Even (even-rows c)
@@ -46,7 +46,7 @@ lone-counted c =
     c .first-lone .ensures ∙ ap firstLone (bot-counted .count-pins2 .ensures ∙ ap (tally _) (top-counted (bot-counted .before .before)))
 
 returns : tie.Need-returns
-returns c = answer-wide (rows (c .before)) (⊎-elim (λ w. inl (omega arith)) (λ w. inr (omega (arith, ltb-true))) (c .if1 .came))
+returns c = answer-wide (given (c .before)) (⊎-elim (λ w. inl (omega arith)) (λ w. inr (omega (arith, ltb-true))) (c .if1 .came))
 
 add-t16 : tie.Need-add-t16
 add-t16 c = ⊎-elim (λ w. let e = w .1 in let l = w .0 .taken in omega arith) (λ w. let e = w .1 in let l = w .0 .left in omega arith) (c .before .if4 .came)
@@ -54,11 +54,11 @@ add-t16 c = ⊎-elim (λ w. let e = w .1 in let l = w .0 .taken in omega arith) 
 returns-2 : tie.Need-returns-2
 returns-2 c =
     let e = c .before .before in
-    answer-uneven (rows (e .before .before .before)) (narrow (e .before)) (inl (e .if3 .taken)) _
+    answer-uneven (given (e .before .before .before)) (narrow (e .before)) (inl (e .if3 .taken)) _
     (⊎-elim (λ w. let q = w .1 in let l = w .0 .taken in omega arith) (λ w. let q = w .1 in let l = w .0 .left in omega arith) (c .before .if4 .came))
 
 returns-3 : tie.Need-returns-3
-returns-3 c = answer-uneven (rows (c .before .before .before .before)) (narrow (c .before .before)) (inr (c .if5 .taken)) 1 (omega arith)
+returns-3 c = answer-uneven (given (c .before .before .before .before)) (narrow (c .before .before)) (inr (c .if5 .taken)) 1 (omega arith)
 
 first-high-requires : tie.Need-first-high-requires
 first-high-requires c κs = search needs

@@ -4,7 +4,7 @@ use Prim.Native.Nat.{ℕ, _+_, _-_, _≤_, _<_}
 use native.Mathlib.Omega.{arith}
 use mathlib.Core.Path.{_≡_, sym, _∙_, ap}
 use lib.ListN.{length, getD, set}
-use Rattle.channel.specs.Channel.{Channel, width}
+use Rattle.channel.specs.Channel.{Channel, width, rows}
 use Rattle.channel.specs.Spans.{each512}
 use Rattle.channel.specs.Starts.{firstNoted}
 use Rattle.channel.specs.DepthLaws.{at-next, top-low, bot-low}
@@ -14,14 +14,14 @@ use Rattle.channel.proofs.spans.find_spans.Tie as tie
 
 abbrev Inv-loop : tie.InvT-loop
 Inv-loop top bot first₀ last₀ i₀ first last i =
-    (i ≤ length top) × (first ≡ each512 (firstBy (record { top = top; bot = bot }) i)) × (last ≡ each512 (lastBy (record { top = top; bot = bot }) i))
+    (i ≤ length top) × (first ≡ each512 (firstBy (rows top bot) i)) × (last ≡ each512 (lastBy (rows top bot) i))
 
 abbrev μ-loop : tie.MeasureT-loop
 μ-loop top bot first₀ last₀ i₀ first last i = length top - i
 
 -- the channel
 abbrev channel : tie.At-loop Inv-loop μ-loop → Channel
-channel c = record { top = c .before .before .before .args .top .now; bot = c .before .before .before .args .bot .now }
+channel c = rows (c .before .before .before .args .top .now) (c .before .before .before .args .bot .now)
 
 -- the numbers of a turn's column are places of the arrays
 low : (c : tie.In-loop Inv-loop μ-loop) → (getD (channel (c .before) .top) (c .before .loop .i) 0 < 512) × (getD (channel (c .before) .bot) (c .before .loop .i) 0 < 512)

@@ -12,7 +12,7 @@ use borrow.Author.Tests.{eq-eqb, ne-eqb}
 use denote.Ref.{now}
 use Rattle.grid.specs.Pieces.{branchKind}
 use Rattle.judge.specs.declared.boxes.Cover.{Cover}
-use Rattle.channel.specs.Channel.{Channel, width}
+use Rattle.channel.specs.Channel.{Channel, width, rows}
 use Rattle.judge.specs.Code.{boxOf, boxesTouch}
 use Rattle.judge.specs.Joins.{JoinedTo}
 use Rattle.judge.specs.Touched.{touched}
@@ -79,7 +79,7 @@ same-length c =
 returns : tie.Need-returns
 returns c =
     let a = c .before .before .before .before .before .before .before .before .before .before .before .before .before .before .args in
-    let ch : Channel = record { top = now (a .top); bot = now (a .bot) } in
+    let ch : Channel = rows (now (a .top)) (now (a .bot)) in
     let ready = c .before .before .before .before .before .before .before .before .before .before .before .before .before .before .pre .ready in
     let ws = now (a .words) in
     let n = width ch + width ch + a .j in

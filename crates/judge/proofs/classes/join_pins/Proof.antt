@@ -7,6 +7,7 @@ use mathlib.Core.List.{List}
 use denote.Ref.{now}
 use Rattle.judge.specs.Joins.{JoinedTo}
 use Rattle.judge.specs.WordMarks.{no-pin-places, branch-places}
+use Rattle.channel.specs.Channel.{rows}
 use Rattle.judge.specs.Buffers.{join-none, join-both}
 use Rattle.judge.proofs.classes.join_pins.Statement.{statement}
 use Rattle.judge.proofs.classes.join_pins.Tie as tie
@@ -14,7 +15,7 @@ use Rattle.judge.proofs.classes.join_pins.Tie as tie
 returns : tie.Need-returns
 returns c =
     let a = c .before .before .before .before .before .args in
-    subst (λ (l : List ℕ). JoinedTo (a .n) (now (a .scratch)) 0 l 0 (now (a .scratch))) (sym (no-pin-places (record { top = now (a .top); bot = now (a .bot) }) (a .tracks) (a .c) (c .if1 .taken))) (join-none (a .n) (now (a .scratch)) 0)
+    subst (λ (l : List ℕ). JoinedTo (a .n) (now (a .scratch)) 0 l 0 (now (a .scratch))) (sym (no-pin-places (rows (now (a .top)) (now (a .bot))) (a .tracks) (a .c) (c .if1 .taken))) (join-none (a .n) (now (a .scratch)) 0)
 
 cast-i : tie.Need-cast-i
 cast-i c = search needs
@@ -42,7 +43,7 @@ returns-2 c =
     let a = c .before .before .before .before .before .before .before .before .before .before .before .before .before .before .before .before .args in
     let s = now (a .scratch) in
     let r = c .before .before .before .before .before .before .before .before .before .before .before .before .before .before .before .before .pre .column (c .before .before .before .before .before .before .before .before .before .before .before .if1 .left) in
-    subst (λ (l : List ℕ). JoinedTo (a .n) s 0 l (c .before .before .join-pin2 .result) (c .before .before .join-pin2 .last .1 .1 .1 .1 .0)) (branch-places (record { top = now (a .top); bot = now (a .bot) }) (a .tracks) (a .c) (c .before .before .before .before .before .before .before .before .before .before .before .if1 .left) (r .0))
+    subst (λ (l : List ℕ). JoinedTo (a .n) s 0 l (c .before .before .join-pin2 .result) (c .before .before .join-pin2 .last .1 .1 .1 .1 .0)) (branch-places (rows (now (a .top)) (now (a .bot))) (a .tracks) (a .c) (c .before .before .before .before .before .before .before .before .before .before .before .if1 .left) (r .0))
     (join-both (a .n) s _ _ 0 _ _ _ _ (c .before .before .before .before .before .before .before .join-pin .ensures) (c .before .before .join-pin2 .ensures))
 
 pub join-pins-spec : {M : Type 1} → statement M

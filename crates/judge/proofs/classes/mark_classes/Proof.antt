@@ -4,13 +4,13 @@ use native.Mathlib.Omega.{arith}
 use mathlib.Core.Path.{_≡_, refl, sym, _∙_, subst}
 use lib.ListN.{length}
 use denote.Ref.{now}
-use Rattle.channel.specs.Channel.{Channel}
+use Rattle.channel.specs.Channel.{Channel, rows}
 use Rattle.judge.specs.MarkSteps.{MarkedTo, marked-none}
 use Rattle.judge.proofs.classes.mark_classes.Statement.{statement}
 use Rattle.judge.proofs.classes.mark_classes.Tie as tie
 
 abbrev Inv-loop : tie.InvT-loop
-Inv-loop top bot tracks words count scratch₀ j₀ scratch j = (j ≤ count) × (length scratch ≡ length scratch₀) × MarkedTo (record { top = top; bot = bot }) tracks words j scratch
+Inv-loop top bot tracks words count scratch₀ j₀ scratch j = (j ≤ count) × (length scratch ≡ length scratch₀) × MarkedTo (rows top bot) tracks words j scratch
 
 abbrev μ-loop : tie.MeasureT-loop
 μ-loop top bot tracks words count scratch₀ j₀ scratch j = count - j
@@ -24,7 +24,7 @@ mark-alone-requires c κs = omega (arith, c .before .before .before .before .pre
 loop-holds : tie.Need-loop-holds Inv-loop μ-loop
 loop-holds c =
     let a = c .before .before .before .before .before .before .before .args in
-    let ch : Channel = record { top = now (a .top); bot = now (a .bot) } in
+    let ch : Channel = rows (now (a .top)) (now (a .bot)) in
     (omega arith, refl, subst (MarkedTo ch (a .tracks) (now (a .words)) 0) (sym (c .before .before .mark-alone .ensures)) (marked-none ch (a .tracks) (now (a .words)) (now (a .scratch))))
 
 add-piece-requires : tie.Need-add-piece-requires Inv-loop μ-loop
@@ -62,7 +62,7 @@ returns : tie.Need-returns Inv-loop μ-loop
 returns c =
     let a = c .before .before .before .before .before .before .before .before .before .args in
     let e : c .before .loop .j ≡ a .count = omega arith in
-    subst (λ (k : ℕ). MarkedTo (record { top = now (a .top); bot = now (a .bot) }) (a .tracks) (now (a .words)) k (c .before .loop .scratch)) e (c .before .loop .inv .2)
+    subst (λ (k : ℕ). MarkedTo (rows (now (a .top)) (now (a .bot))) (a .tracks) (now (a .words)) k (c .before .loop .scratch)) e (c .before .loop .inv .2)
 
 pub mark-classes-spec : {M : Type 1} → statement M
 mark-classes-spec =

@@ -6,7 +6,7 @@ use mathlib.Core.Path.{refl, sym, _∙_}
 use lib.ListN.{length, take}
 use lib.Seq.{length-take-le}
 use denote.Ref.{now}
-use Rattle.channel.specs.Channel.{Channel, width}
+use Rattle.channel.specs.Channel.{Channel, width, rows}
 use Rattle.judge.specs.FaultSteps.{blank-zeros, finds-short, finds-open, finds-floating, finds-nothing}
 use Rattle.judge.proofs.faults.find_fault.Statement.{statement}
 use Rattle.judge.proofs.faults.find_fault.Tie as tie
@@ -29,7 +29,7 @@ first-short-requires c κs = (c .before .before .before .before .before .pre .1,
 returns : tie.Need-returns
 returns c =
     let a = c .before .before .before .before .before .before .before .before .args in
-    let ch : Channel = record { top = now (a .top); bot = now (a .bot) } in
+    let ch : Channel = rows (now (a .top)) (now (a .bot)) in
     let n = width ch + width ch + a .count in
     let ms = take n (now (a .marks)) in
     finds-short ch ms (a .count) (c .before .before .first-short .result) (c .before .before .first-short .ensures .first) (c .if1 .taken)
@@ -43,7 +43,7 @@ first-open-requires c κs = (c .before .before .before .before .before .before .
 returns-2 : tie.Need-returns-2
 returns-2 c =
     let a = c .before .before .before .before .before .before .before .before .before .before .before .before .args in
-    let ch : Channel = record { top = now (a .top); bot = now (a .bot) } in
+    let ch : Channel = rows (now (a .top)) (now (a .bot)) in
     let n = width ch + width ch + a .count in
     let ms = take n (now (a .marks)) in
     let no-short = sym (c .before .before .before .before .if1 .left) ∙ c .before .before .before .before .before .before .first-short .ensures .first in
@@ -55,7 +55,7 @@ slice-aggregate-first-floating c = search needs
 first-floating-requires : tie.Need-first-floating-requires
 first-floating-requires c κs =
     let a = c .before .before .before .before .before .before .before .before .before .before .before .before .before .args in
-    let ch : Channel = record { top = now (a .top); bot = now (a .bot) } in
+    let ch : Channel = rows (now (a .top)) (now (a .bot)) in
     let n = width ch + width ch + a .count in
     let ms = take n (now (a .marks)) in
     let kept = c .before .before .before .before .before .before .before .first-short .kept .1 .1 .1 .0 in
@@ -64,7 +64,7 @@ first-floating-requires c κs =
 returns-3 : tie.Need-returns-3
 returns-3 c =
     let a = c .before .before .before .before .before .before .before .before .before .before .before .before .before .before .before .args in
-    let ch : Channel = record { top = now (a .top); bot = now (a .bot) } in
+    let ch : Channel = rows (now (a .top)) (now (a .bot)) in
     let n = width ch + width ch + a .count in
     let ms = take n (now (a .marks)) in
     let no-short = sym (c .before .before .before .before .before .before .before .if1 .left) ∙ c .before .before .before .before .before .before .before .before .before .first-short .ensures .first in
@@ -75,7 +75,7 @@ returns-3 c =
 returns-4 : tie.Need-returns-4
 returns-4 c =
     let a = c .before .before .before .before .before .before .before .before .before .before .before .before .before .before .before .args in
-    let ch : Channel = record { top = now (a .top); bot = now (a .bot) } in
+    let ch : Channel = rows (now (a .top)) (now (a .bot)) in
     let n = width ch + width ch + a .count in
     let ms = take n (now (a .marks)) in
     let no-short = sym (c .before .before .before .before .before .before .before .if1 .left) ∙ c .before .before .before .before .before .before .before .before .before .first-short .ensures .first in

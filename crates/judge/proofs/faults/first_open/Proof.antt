@@ -7,14 +7,14 @@ use lib.ListN.{length, getD}
 use lib.Dec.{eqb}
 use denote.Ref.{now}
 use borrow.Author.Tests.{not-true, not-false}
-use Rattle.channel.specs.Channel.{Channel, width}
+use Rattle.channel.specs.Channel.{Channel, width, rows}
 use Rattle.judge.specs.Searches.{FirstsKnown, firsts-none, no-open}
 use Rattle.judge.specs.FaultSteps.{Claimed, firsts-next, firsts-refused, net-low}
 use Rattle.judge.proofs.faults.first_open.Statement.{statement}
 use Rattle.judge.proofs.faults.first_open.Tie as tie
 
 abbrev Inv-loop : tie.InvT-loop
-Inv-loop top bot marks firsts₀ i₀ firsts i = (i ≤ length top + length top) × (length firsts ≡ 512) × FirstsKnown (record { top = top; bot = bot }) marks firsts i
+Inv-loop top bot marks firsts₀ i₀ firsts i = (i ≤ length top + length top) × (length firsts ≡ 512) × FirstsKnown (rows top bot) marks firsts i
 
 abbrev μ-loop : tie.MeasureT-loop
 μ-loop top bot marks firsts₀ i₀ firsts i = length top + length top - i
@@ -22,7 +22,7 @@ abbrev μ-loop : tie.MeasureT-loop
 loop-holds : tie.Need-loop-holds Inv-loop μ-loop
 loop-holds c =
     let a = c .before .before .before .before .args in
-    (omega arith, c .before .before .before .before .pre .1 .places, firsts-none (record { top = now (a .top); bot = now (a .bot) }) (now (a .marks)) (now (a .firsts)) (c .before .before .before .before .pre .1 .free))
+    (omega arith, c .before .before .before .before .pre .1 .places, firsts-none (rows (now (a .top)) (now (a .bot))) (now (a .marks)) (now (a .firsts)) (c .before .before .before .before .pre .1 .free))
 
 add-loop : tie.Need-add-loop Inv-loop μ-loop
 add-loop c = omega (arith, c .before .before .before .before .before .pre .0 .escapes .narrow)
@@ -40,7 +40,7 @@ shared-slice-read-claim : tie.Need-shared-slice-read-claim Inv-loop μ-loop
 shared-slice-read-claim c = omega (arith, c .before .before .before .before .before .before .before .before .before .pre .0 .long)
 
 claim-requires : tie.Need-claim-requires Inv-loop μ-loop
-claim-requires c κs = let a = c .before .before .before .before .before .before .before .before .before .args in omega (arith, c .before .before .before .before .loop .inv .1, c .before .before .net-at .ensures, net-low (record { top = now (a .top); bot = now (a .bot) }) (c .before .before .before .before .before .before .before .before .before .pre .0 .escapes) (c .before .before .before .before .loop .i))
+claim-requires c κs = let a = c .before .before .before .before .before .before .before .before .before .args in omega (arith, c .before .before .before .before .loop .inv .1, c .before .before .net-at .ensures, net-low (rows (now (a .top)) (now (a .bot))) (c .before .before .before .before .before .before .before .before .before .pre .0 .escapes) (c .before .before .before .before .loop .i))
 
 add-result : tie.Need-add-result Inv-loop μ-loop
 add-result c = omega (arith, c .before .before .before .before .before .before .before .before .before .before .before .before .before .pre .0 .escapes .narrow)
@@ -54,7 +54,7 @@ returns c =
     let i = c .before .before .before .before .before .before .before .before .loop .i in
     let firsts = c .before .before .before .before .before .before .before .before .loop .firsts in
     let claimed = subst (λ (n : ℕ). Claimed firsts (not (eqb n 0)) n (getD (now (a .marks)) i 0) (c .before .before .before .claim .result) (c .before .before .before .claim .last .0)) (c .before .before .before .before .before .before .net-at .ensures) (c .before .before .before .claim .ensures) in
-    firsts-refused (record { top = now (a .top); bot = now (a .bot) }) (now (a .marks)) i firsts (c .before .before .before .before .before .before .before .loop-test .taken) (c .before .before .before .before .before .before .before .before .loop .inv .2) claimed (not-true (c .before .before .before .claim .result) (c .if1 .taken))
+    firsts-refused (rows (now (a .top)) (now (a .bot))) (now (a .marks)) i firsts (c .before .before .before .before .before .before .before .loop-test .taken) (c .before .before .before .before .before .before .before .before .loop .inv .2) claimed (not-true (c .before .before .before .claim .result) (c .if1 .taken))
 
 add-i : tie.Need-add-i Inv-loop μ-loop
 add-i c = omega (arith, c .before .before .before .before .before .before .before .before .before .before .before .before .before .pre .0 .escapes .narrow)
@@ -65,7 +65,7 @@ loop-less c = omega arith
 loop-again : tie.Need-loop-again Inv-loop μ-loop
 loop-again c =
     let a = c .before .before .before .before .before .before .before .before .before .before .before .before .before .args in
-    let ch : Channel = record { top = now (a .top); bot = now (a .bot) } in
+    let ch : Channel = rows (now (a .top)) (now (a .bot)) in
     let i = c .before .before .before .before .before .before .before .before .loop .i in
     let firsts = c .before .before .before .before .before .before .before .before .loop .firsts in
     let inv = c .before .before .before .before .before .before .before .before .loop .inv in
@@ -81,7 +81,7 @@ same-length-2 c = c .before .loop .inv .1 ∙ sym (c .before .before .before .be
 returns-2 : tie.Need-returns-2 Inv-loop μ-loop
 returns-2 c =
     let a = c .before .before .before .before .before .before .args in
-    let ch : Channel = record { top = now (a .top); bot = now (a .bot) } in
+    let ch : Channel = rows (now (a .top)) (now (a .bot)) in
     let end : c .before .loop .i ≡ width ch + width ch = omega arith in
     sym (no-open ch (now (a .marks)) (c .before .loop .firsts) (subst (FirstsKnown ch (now (a .marks)) (c .before .loop .firsts)) end (c .before .loop .inv .2)))
 

@@ -7,14 +7,14 @@ use lib.ListN.{length, getD}
 use lib.Dec.{eqb}
 use denote.Ref.{now}
 use borrow.Author.Tests.{not-true, not-false}
-use Rattle.channel.specs.Channel.{Channel, width}
+use Rattle.channel.specs.Channel.{Channel, width, rows}
 use Rattle.judge.specs.Searches.{Owned, owned-none, no-short}
 use Rattle.judge.specs.FaultSteps.{Claimed, owned-next, owned-refused}
 use Rattle.judge.proofs.faults.first_short.Statement.{statement}
 use Rattle.judge.proofs.faults.first_short.Tie as tie
 
 abbrev Inv-loop : tie.InvT-loop
-Inv-loop top bot marks owners₀ i₀ owners i = (i ≤ length top + length top) × (length owners ≡ 5120) × Owned (record { top = top; bot = bot }) marks owners i
+Inv-loop top bot marks owners₀ i₀ owners i = (i ≤ length top + length top) × (length owners ≡ 5120) × Owned (rows top bot) marks owners i
 
 abbrev μ-loop : tie.MeasureT-loop
 μ-loop top bot marks owners₀ i₀ owners i = length top + length top - i
@@ -22,7 +22,7 @@ abbrev μ-loop : tie.MeasureT-loop
 loop-holds : tie.Need-loop-holds Inv-loop μ-loop
 loop-holds c =
     let a = c .before .before .before .before .args in
-    (omega arith, c .before .before .before .before .pre .1 .places, owned-none (record { top = now (a .top); bot = now (a .bot) }) (now (a .marks)) (now (a .owners)) (c .before .before .before .before .pre .1 .free))
+    (omega arith, c .before .before .before .before .pre .1 .places, owned-none (rows (now (a .top)) (now (a .bot))) (now (a .marks)) (now (a .owners)) (c .before .before .before .before .pre .1 .free))
 
 add-loop : tie.Need-add-loop Inv-loop μ-loop
 add-loop c = omega (arith, c .before .before .before .before .before .pre .0 .escapes .narrow)
@@ -55,7 +55,7 @@ returns c =
     let owners = c .before .before .before .before .before .before .before .before .loop .owners in
     let claimed = subst (λ (n : ℕ). Claimed owners (not (eqb n 0)) (getD (now (a .marks)) i 0) n (c .before .before .before .claim .result) (c .before .before .before .claim .last .0)) (c .before .before .before .before .before .before .net-at .ensures) (c .before .before .before .claim .ensures) in
     record {
-      first = owned-refused (record { top = now (a .top); bot = now (a .bot) }) (now (a .marks)) i owners (c .before .before .before .before .before .before .before .loop-test .taken) (c .before .before .before .before .before .before .before .before .loop .inv .2) claimed (not-true (c .before .before .before .claim .result) (c .if1 .taken));
+      first = owned-refused (rows (now (a .top)) (now (a .bot))) (now (a .marks)) i owners (c .before .before .before .before .before .before .before .loop-test .taken) (c .before .before .before .before .before .before .before .before .loop .inv .2) claimed (not-true (c .before .before .before .claim .result) (c .if1 .taken));
       owned = λ z. absurd (omega arith);
     }
 
@@ -73,7 +73,7 @@ loop-again c =
     let inv = c .before .before .before .before .before .before .before .before .loop .inv in
     let mark = c .before .before .before .before .before .before .before .before .before .before .before .before .before .pre .0 .marked i (omega (arith, c .before .before .before .before .before .before .before .before .before .before .before .before .before .pre .0 .long)) in
     let claimed = subst (λ (n : ℕ). Claimed owners (not (eqb n 0)) (getD (now (a .marks)) i 0) n (c .before .before .before .claim .result) (c .before .before .before .claim .last .0)) (c .before .before .before .before .before .before .net-at .ensures) (c .before .before .before .claim .ensures) in
-    (omega arith, c .before .before .before .claim .kept .0 ∙ inv .1, owned-next (record { top = now (a .top); bot = now (a .bot) }) (now (a .marks)) i owners (omega arith) (inv .2) claimed (not-false (c .before .before .before .claim .result) (c .if1 .left)))
+    (omega arith, c .before .before .before .claim .kept .0 ∙ inv .1, owned-next (rows (now (a .top)) (now (a .bot))) (now (a .marks)) i owners (omega arith) (inv .2) claimed (not-false (c .before .before .before .claim .result) (c .if1 .left)))
 
 same-length-2 : tie.Need-same-length-2 Inv-loop μ-loop
 same-length-2 c = c .before .loop .inv .1 ∙ sym (c .before .before .before .before .before .before .pre .1 .places)
@@ -81,7 +81,7 @@ same-length-2 c = c .before .loop .inv .1 ∙ sym (c .before .before .before .be
 returns-2 : tie.Need-returns-2 Inv-loop μ-loop
 returns-2 c =
     let a = c .before .before .before .before .before .before .args in
-    let ch : Channel = record { top = now (a .top); bot = now (a .bot) } in
+    let ch : Channel = rows (now (a .top)) (now (a .bot)) in
     let end : c .before .loop .i ≡ width ch + width ch = omega arith in
     let owned = subst (Owned ch (now (a .marks)) (c .before .loop .owners)) end (c .before .loop .inv .2) in
     record { first = sym (no-short ch (now (a .marks)) (c .before .loop .owners) owned); owned = λ z. owned }

@@ -8,21 +8,21 @@ use mathlib.Core.List.{List}
 use mathlib.Core.Logic.{⊎-elim}
 use lib.ListN.{length, getD, set}
 use borrow.Author.Tests.{eqb-true, eqb-false, not-true, not-false}
-use Rattle.channel.specs.Channel.{Channel}
+use Rattle.channel.specs.Channel.{Channel, rows}
 use Rattle.leftedge.specs.Marked.{marksTo}
 use Rattle.leftedge.specs.MarkedLaws.{rows-low, marks-none, blocking-column, other-column}
 use Rattle.leftedge.proofs.blocks.blocked.Statement.{statement}
 use Rattle.leftedge.proofs.blocks.blocked.Tie as tie
 
 abbrev Inv-loop : tie.InvT-loop
-Inv-loop top bot tracks marks₀ i₀ marks i = (i ≤ length top) × (marks ≡ marksTo (record { top = top; bot = bot }) tracks i)
+Inv-loop top bot tracks marks₀ i₀ marks i = (i ≤ length top) × (marks ≡ marksTo (rows top bot) tracks i)
 
 abbrev μ-loop : tie.MeasureT-loop
 μ-loop top bot tracks marks₀ i₀ marks i = length top - i
 
 -- the channel, and the loop's variables, where a turn begins
 abbrev ch : tie.At-loop Inv-loop μ-loop → Channel
-ch c = record { top = c .before .args .top .now; bot = c .before .args .bot .now }
+ch c = rows (c .before .args .top .now) (c .before .args .bot .now)
 
 abbrev a : tie.At-loop Inv-loop μ-loop → ℕ
 a c = getD (ch c .top) (c .loop .i) 0

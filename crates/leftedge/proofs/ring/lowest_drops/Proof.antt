@@ -7,14 +7,14 @@ use mathlib.Core.List.{List}
 use lib.ListN.{length, getD, set}
 use denote.Ref.{now}
 use Rattle.lists.specs.Ends.{at-suc}
-use Rattle.channel.specs.Channel.{Channel}
+use Rattle.channel.specs.Channel.{Channel, rows}
 use Rattle.channel.specs.Spans.{each512}
 use Rattle.leftedge.specs.DropLaws.{dropFrom, drop-none, drop-all, drop-more, drop-same}
 use Rattle.leftedge.proofs.ring.lowest_drops.Statement.{statement}
 use Rattle.leftedge.proofs.ring.lowest_drops.Tie as tie
 
 abbrev Inv-loop : tie.InvT-loop
-Inv-loop top bot tracks columns₀ i₀ columns i = (i ≤ length top) × (columns ≡ each512 (dropFrom (record { top = top; bot = bot }) tracks i))
+Inv-loop top bot tracks columns₀ i₀ columns i = (i ≤ length top) × (columns ≡ each512 (dropFrom (rows top bot) tracks i))
 
 abbrev μ-loop : tie.MeasureT-loop
 μ-loop top bot tracks columns₀ i₀ columns i = i
@@ -35,7 +35,7 @@ low c =
     record { upper = omega arith; lower = omega arith }
 
 loop-holds : tie.Need-loop-holds Inv-loop μ-loop
-loop-holds c = (omega arith, drop-none (record { top = now (c .args .top); bot = now (c .args .bot) }) (now (c .args .tracks)))
+loop-holds c = (omega arith, drop-none (rows (now (c .args .top)) (now (c .args .bot))) (now (c .args .tracks)))
 
 sub-i : tie.Need-sub-i Inv-loop μ-loop
 sub-i c = omega arith
@@ -84,7 +84,7 @@ loop-again c =
     let at-loop = c .before .before .before .before .before in
     let a = at-loop .before .args in
     let i = at-loop .loop .i in
-    let ch : Channel = record { top = now (a .top); bot = now (a .bot) } in
+    let ch : Channel = rows (now (a .top)) (now (a .bot)) in
     (omega arith, ap (λ (l : List ℕ). set l (getD (now (a .top)) (i - 1) 0) (i - 1 + 1)) (at-loop .loop .inv .1) ∙ drop-more ch (now (a .tracks)) i (i - 1) (omega arith) (at-loop .loop .inv .0) (low at-loop .upper) (c .if1 .taken))
 
 loop-less-2 : tie.Need-loop-less-2 Inv-loop μ-loop
@@ -95,13 +95,13 @@ loop-again-2 c =
     let at-loop = c .before .before .before .before .before in
     let a = at-loop .before .args in
     let i = at-loop .loop .i in
-    let ch : Channel = record { top = now (a .top); bot = now (a .bot) } in
+    let ch : Channel = rows (now (a .top)) (now (a .bot)) in
     (omega arith, at-loop .loop .inv .1 ∙ drop-same ch (now (a .tracks)) i (i - 1) (omega arith) (at-loop .loop .inv .0) (c .if1 .left))
 
 returns : tie.Need-returns Inv-loop μ-loop
 returns c =
     let a = c .before .before .args in
-    let ch : Channel = record { top = now (a .top); bot = now (a .bot) } in
+    let ch : Channel = rows (now (a .top)) (now (a .bot)) in
     let end : c .before .loop .i ≡ 0 = omega arith in
     c .before .loop .inv .1 ∙ (ap (λ (i : ℕ). each512 (dropFrom ch (now (a .tracks)) i)) end ∙ drop-all ch (now (a .tracks)))
 

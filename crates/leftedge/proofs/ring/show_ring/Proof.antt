@@ -8,7 +8,7 @@ use lib.ListN.{take, getD}
 use denote.Ref.{now}
 use borrow.Author.Needs.{needs}
 use Rattle.lists.specs.Lists.{overlay}
-use Rattle.channel.specs.Channel.{Channel}
+use Rattle.channel.specs.Channel.{Channel, rows}
 use Rattle.channel.specs.Constraints.{Step}
 use Rattle.leftedge.specs.Walk.{ringOf, ringNumbers}
 use Rattle.leftedge.specs.Nets.{netItems}
@@ -18,7 +18,7 @@ use Rattle.leftedge.proofs.ring.show_ring.Statement.{statement}
 use Rattle.leftedge.proofs.ring.show_ring.Tie as tie
 
 abbrev channelAt : tie.Start → Channel
-channelAt c = record { top = now (c .args .top); bot = now (c .args .bot) }
+channelAt c = rows (now (c .args .top)) (now (c .args .bot))
 
 abbrev leftAt : tie.Start → List ℕ
 leftAt c = take (c .args .count) (now (c .args .left))

@@ -6,7 +6,7 @@ use native.Mathlib.Omega.{arith}
 use mathlib.Core.Path.{_≡_, refl, _∙_, ap}
 use mathlib.Core.List.{List}
 use lib.ListN.{length, take}
-use Rattle.channel.specs.Channel.{Channel}
+use Rattle.channel.specs.Channel.{Channel, rows}
 use Rattle.channel.specs.Answers.{Escapes}
 use Rattle.channel.specs.Spans.{firsts, lasts}
 use Rattle.leftedge.specs.Marked.{blockedMarks, scanMarked, ScanDone}
@@ -15,7 +15,7 @@ use Rattle.leftedge.proofs.tracks.fill_tracks.Statement.{statement}
 use Rattle.leftedge.proofs.tracks.fill_tracks.Tie as tie
 
 abbrev Inv-loop : tie.InvT-loop
-Inv-loop top bot first last ring₀ left₀ tracks₀ count₀ done₀ ring left tracks count done = Underway (record { top = top; bot = bot }) tracks left count done × (ring ≡ ring₀)
+Inv-loop top bot first last ring₀ left₀ tracks₀ count₀ done₀ ring left tracks count done = Underway (rows top bot) tracks left count done × (ring ≡ ring₀)
 
 abbrev μ-loop : tie.MeasureT-loop
 μ-loop top bot first last ring₀ left₀ tracks₀ count₀ done₀ ring left tracks count done = count
@@ -25,7 +25,7 @@ abbrev At : Type 0
 At = tie.At-loop Inv-loop μ-loop
 
 abbrev ch : At → Channel
-ch t = record { top = t .before .before .before .before .before .before .args .top .now; bot = t .before .before .before .before .before .before .args .bot .now }
+ch t = rows (t .before .before .before .before .before .before .args .top .now) (t .before .before .before .before .before .before .args .bot .now)
 
 esc : (t : At) → Escapes (ch t)
 esc t = t .before .before .before .before .before .before .pre .0
