@@ -4,9 +4,8 @@ use mathlib.Core.List.{List, [], _∷_, _++_}
 use lib.ListN.{length}
 use Rattle.lists.specs.Lists.{each}
 use Rattle.grid.specs.declared.Piece.{Piece}
-use Rattle.grid.specs.Pieces.{kindOf}
+use Rattle.grid.specs.Pieces.{kindOf, Layout}
 use Rattle.grid.specs.Words.{lineOf, fromOf, toOf}
-use Rattle.wiring.specs.Layouts.{Layout}
 
 -- 32 bits as four bytes
 unfoldable pub word : ℕ → List ℕ

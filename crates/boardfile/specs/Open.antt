@@ -10,9 +10,8 @@ use Rattle.refusal.specs.declared.Refusal.{Refusal}
 use Rattle.refusal.specs.declared.Refusal.the-variants.{Torn, BadField}
 use Rattle.refusal.specs.Refusals.{Told, toldRefusal, toldValues, refuseIf, refuseAtFirst, _or-else_, answered}
 use Rattle.grid.specs.declared.Piece.{Piece}
-use Rattle.grid.specs.Pieces.{kindOf}
+use Rattle.grid.specs.Pieces.{kindOf, Layout}
 use Rattle.grid.specs.Words.{lineOf, fromOf, toOf, fieldsRight, makePiece}
-use Rattle.wiring.specs.Layouts.{Layout}
 use Rattle.boardfile.specs.declared.OpenAnswer.{OpenAnswer}
 use Rattle.boardfile.specs.declared.OpenAnswer.the-variants as opening
 use Rattle.boardfile.specs.declared.PieceAnswer.{PieceAnswer}

@@ -5,8 +5,7 @@ use mathlib.Core.List.{List, List·Memᴰ}
 use mathlib.Core.Option.{none}
 use lib.ListN.{length}
 use Rattle.grid.specs.declared.Piece.{Piece}
-use Rattle.grid.specs.Pieces.{OnGrid}
-use Rattle.wiring.specs.Layouts.{Layout}
+use Rattle.grid.specs.Pieces.{OnGrid, Layout}
 use Rattle.boardfile.specs.Open.{openRefusal, fileWidth, fileLayout}
 
 -- reading the file gives back this layout of w columns: its width, its tracks, and its pieces in order

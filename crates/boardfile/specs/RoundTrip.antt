@@ -12,10 +12,9 @@ use Rattle.lists.specs.Lists.{each}
 use Rattle.lists.specs.Ranges.{place-member, filled-place, length-each}
 use Rattle.grid.specs.declared.Piece.{Piece}
 use Rattle.grid.specs.declared.Piece.the-variants.{Trunk, Branch, Contact}
-use Rattle.grid.specs.Pieces.{kindOf, OnGrid}
+use Rattle.grid.specs.Pieces.{kindOf, OnGrid, Layout}
 use Rattle.grid.specs.Words.{lineOf, fromOf, toOf}
 use Rattle.grid.specs.WordLaws.{remade, on-grid→right}
-use Rattle.wiring.specs.Layouts.{Layout}
 use Rattle.boardfile.specs.Encode.{word, header, pieceWord, encode}
 use Rattle.boardfile.specs.Open.{wordAt, fileWidth, fileTracks, fileCount, fileSpare, wordRight, pieceOf, piecesFrom, fileLayout}
 use Rattle.boardfile.specs.BitLaws.{bytes-back, HasHeader, header-has, HasFields, fields-have}

@@ -7,10 +7,10 @@ use lib.ListN.{getD}
 use lib.Dec.{eqb}
 use Rattle.lists.specs.Lists.{each, at}
 use Rattle.grid.specs.declared.Piece.{Piece}
+use Rattle.grid.specs.Pieces.{Layout}
 use Rattle.channel.specs.Channel.{Channel, nets, hasSpan, spanning, firstColumn, lastColumn}
 use Rattle.channel.specs.Answers.{Escapes}
 use Rattle.channel.specs.SpanLaws.{IsNet}
-use Rattle.wiring.specs.Layouts.{Layout}
 use Rattle.drawing.specs.Draw.{drawSpan, drawStraight}
 
 -- the pieces of net n, whose trunk, if it has one, lies on track k

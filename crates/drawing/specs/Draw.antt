@@ -6,9 +6,8 @@ use lib.Dec.{eqb}
 use Rattle.lists.specs.Lists.{each, at}
 use Rattle.grid.specs.declared.Piece.{Piece}
 use Rattle.grid.specs.declared.Piece.the-variants.{Trunk, Branch, Contact}
-use Rattle.grid.specs.Pieces.{column, track, row}
+use Rattle.grid.specs.Pieces.{column, track, row, Layout}
 use Rattle.channel.specs.Channel.{Channel, nets, hasSpan, firstColumn, lastColumn, pinColumns}
-use Rattle.wiring.specs.Layouts.{Layout}
 use Rattle.leftedge.specs.Items.{Place, trackOf}
 
 -- "A TOP pin's branch runs from track to t+1, a BOT pin's from 0 to track; both pins in one column give one branch 0 to t+1":

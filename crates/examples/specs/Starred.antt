@@ -12,7 +12,7 @@ use Rattle.refusal.specs.Refusals.{Told, refuseIf, refuseAtFirst, _or-else_, an
 use Rattle.refusal.specs.Trays.{shortTray, scratchTray}
 use Rattle.grid.specs.declared.Piece.{Piece}
 use Rattle.grid.specs.declared.Piece.the-variants.{Trunk, Branch}
-use Rattle.grid.specs.Pieces.{column, track, row, kindOf, left, right, low, high}
+use Rattle.grid.specs.Pieces.{column, track, row, kindOf, left, right, low, high, Layout}
 use Rattle.grid.specs.Words.{lineOf, fromOf, toOf, fieldsRight, makePiece}
 use Rattle.grid.specs.Touching.{meet, covers, touches}
 use Rattle.channel.specs.Channel.{Channel, width, isNet, pinColumns, firstColumn, lastColumn, pinCount, nets, hasSpan, spanning}
@@ -21,7 +21,6 @@ use Rattle.channel.specs.Density.{spansOver, spansOf, density}
 use Rattle.channel.specs.Constraints.{above, drops, depth, chain}
 use Rattle.channel.specs.Answers.{tooWide, uneven, highNet, lonePin, rowsRefusal, boundsAnswer, boundsTold}
 use Rattle.wiring.specs.Pins.{columnOf, rowOf, netOf, pinTouches}
-use Rattle.wiring.specs.Layouts.{Layout}
 use Rattle.pinlist.specs.Reader.{afterNumber, lineStep, topStep, botStep, step, atEnd, readFrom, readText}
 use Rattle.pinlist.specs.Answers.{garbledRefusal, channelOf, textChannel, textRefusal}
 use Rattle.leftedge.specs.Items.{isPlaced, trackOf, fits, clearBelow}

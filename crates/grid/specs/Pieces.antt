@@ -1,5 +1,6 @@
 -- 01, "Wiring rule": a piece of copper, by its kind and by the box of grid points that it covers. Everything outside this file reads a piece through these.
 use Prim.Native.Nat.{ℕ, _+_, _≤_, _<_}
+use mathlib.Core.List.{List}
 use Rattle.grid.specs.declared.Piece.{Piece}
 use Rattle.grid.specs.declared.Piece.the-variants.{Trunk, Branch, Contact}
 use Rattle.grid.specs.declared.Track.{Track}
@@ -61,3 +62,8 @@ unfoldable pub OnGrid : ℕ → ℕ → Piece → Type 0
 OnGrid w t (Trunk k a b) = (1 ≤ k .0) × (k .0 ≤ t) × (1 ≤ a .0) × (a .0 < b .0) × (b .0 ≤ w)
 OnGrid w t (Branch c a b) = (1 ≤ c .0) × (c .0 ≤ w) × (a .0 < b .0) × (b .0 ≤ t + 1)
 OnGrid w t (Contact c k) = (1 ≤ c .0) × (c .0 ≤ w) × (1 ≤ k .0) × (k .0 ≤ t)
+
+-- "A layout of a channel is a number of tracks t, from 0 up, and any list of pieces"
+pub record Layout : Type 0 where
+  pub tracks : ℕ
+  pub pieces : List Piece

@@ -8,9 +8,9 @@ use Rattle.refusal.specs.declared.Refusal.{Refusal}
 use Rattle.refusal.specs.declared.Refusal.the-variants.{WrongBoard}
 use Rattle.refusal.specs.Refusals.{Told, toldRefusal, toldValues, refuseIf, _or-else_, answered}
 use Rattle.refusal.specs.Trays.{scratchTray, shortTray}
+use Rattle.grid.specs.Pieces.{Layout}
 use Rattle.channel.specs.Channel.{Channel, width}
 use Rattle.channel.specs.Answers.{rowsRefusal}
-use Rattle.wiring.specs.Layouts.{Layout}
 use Rattle.boardfile.specs.Open.{openRefusal, fileWidth, fileTracks, fileLayout}
 use Rattle.judge.specs.declared.Fault.{Fault}
 use Rattle.judge.specs.declared.Fault.the-variants.{Short, Open, Floating}

@@ -9,10 +9,11 @@ use mathlib.Core.Option.{Option, none, some}
 use Rattle.lists.specs.Tests.{equal?}
 use Rattle.lists.specs.Ranges.{member-place, place-member}
 use Rattle.grid.specs.declared.Piece.{Piece}
+use Rattle.grid.specs.Pieces.{Layout}
 use Rattle.channel.specs.Channel.{Channel}
 use Rattle.channel.specs.Answers.{Escapes}
 use Rattle.wiring.specs.Pins.{Pin, netOf, IsPin, pinAt}
-use Rattle.wiring.specs.Layouts.{Layout, Present, Good, AllOnGrid, pin, copper, Joined}
+use Rattle.wiring.specs.Layouts.{Present, Good, AllOnGrid, pin, copper, Joined}
 use Rattle.wiring.specs.Chains.{joined-trans, joined-sym}
 use Rattle.judge.specs.declared.Fault.{Fault}
 use Rattle.judge.specs.declared.Fault.the-variants.{Short, Open, Floating}

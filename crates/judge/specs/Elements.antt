@@ -4,9 +4,10 @@ use mathlib.Core.List.{List, _++_, map}
 use mathlib.Core.Bool.{Bool, false}
 use Rattle.lists.specs.Lists.{upTo}
 use Rattle.grid.specs.Touching.{touches}
+use Rattle.grid.specs.Pieces.{Layout}
 use Rattle.channel.specs.Channel.{Channel, width}
 use Rattle.wiring.specs.Pins.{Pin, top, bot, pinTouches}
-use Rattle.wiring.specs.Layouts.{Layout, Element, pin, copper}
+use Rattle.wiring.specs.Layouts.{Element, pin, copper}
 
 -- the pin places in order of position, then the pieces
 unfoldable pub elements : Channel → Layout → List Element

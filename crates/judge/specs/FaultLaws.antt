@@ -14,10 +14,11 @@ use Rattle.lists.specs.Firsts.{Passing}
 use Rattle.lists.specs.Places.{place-below}
 use Rattle.lists.specs.Ranges.{filled-place}
 use Rattle.grid.specs.declared.Piece.{Piece}
+use Rattle.grid.specs.Pieces.{Layout}
 use Rattle.channel.specs.Channel.{Channel, width, positions}
 use Rattle.channel.specs.Answers.{Escapes}
 use Rattle.wiring.specs.Pins.{Pin, IsPin, pinAt}
-use Rattle.wiring.specs.Layouts.{Layout, AllOnGrid, pin, copper, Joined}
+use Rattle.wiring.specs.Layouts.{AllOnGrid, pin, copper, Joined}
 use Rattle.judge.specs.Finding.{marks, pins, firstOfNet, shorts, opens, floating}
 use Rattle.judge.specs.PinPlaces.{positionOf, pinAt-position, pin-inside, pins-member, in-pins}
 use Rattle.judge.specs.MarkLaws.{pins-joined, piece-joined}

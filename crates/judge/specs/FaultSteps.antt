@@ -10,10 +10,10 @@ use lib.Dec.{T, ltb, eqb, eqb→eq, eqb-refl}
 use Rattle.lists.specs.Lists.{keep, anyOf, upTo, headOr, at}
 use Rattle.lists.specs.Tests.{true→T, false→fails, not-fails, not-passes}
 use Rattle.lists.specs.Members.{keep-member, upTo-member}
+use Rattle.grid.specs.Pieces.{Layout}
 use Rattle.channel.specs.Channel.{Channel, width, positions, rows}
 use Rattle.channel.specs.Answers.{Escapes}
 use Rattle.wiring.specs.Pins.{Pin, top, bot, netOf, pinAt}
-use Rattle.wiring.specs.Layouts.{Layout}
 use Rattle.judge.specs.declared.Fault.{Fault}
 use Rattle.judge.specs.declared.Fault.the-variants.{Short, Open, Floating}
 use Rattle.judge.specs.declared.faults.Found.{Found}

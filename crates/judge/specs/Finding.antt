@@ -6,8 +6,8 @@ use mathlib.Core.Option.{Option, none, some}
 use lib.ListN.{length}
 use lib.Dec.{ltb, eqb}
 use Rattle.lists.specs.Lists.{keep, anyOf, upTo, headOr, at}
+use Rattle.grid.specs.Pieces.{Layout}
 use Rattle.channel.specs.Channel.{Channel, width, positions}
-use Rattle.wiring.specs.Layouts.{Layout}
 use Rattle.judge.specs.declared.Fault.{Fault}
 use Rattle.judge.specs.declared.Fault.the-variants.{Short, Open, Floating}
 use Rattle.judge.specs.Elements.{elements, elementsTouch}

@@ -19,12 +19,11 @@ use Rattle.refusal.specs.ChainLaws.{some-or-else, none-or-else-later, some-refu
 use Rattle.refusal.specs.Trays.{Tray, scratchTray, shortTray}
 use Rattle.refusal.specs.TrayLaws.{trays-fit}
 use Rattle.grid.specs.declared.Piece.{Piece}
-use Rattle.grid.specs.Pieces.{OnGrid}
+use Rattle.grid.specs.Pieces.{OnGrid, Layout}
 use Rattle.channel.specs.declared.RowsAnswer.the-variants as checking
 use Rattle.channel.specs.Channel.{Channel, width, rows}
 use Rattle.channel.specs.Answers.{rowsRefusal, Escapes, rowsAnswer}
 use Rattle.channel.specs.EscapeLaws.{accepted-exactly}
-use Rattle.wiring.specs.Layouts.{Layout}
 use Rattle.boardfile.specs.declared.OpenAnswer.the-variants as opening
 use Rattle.boardfile.specs.Open.{wordAt, pieceOf, fileWidth, fileTracks, fileCount, piecesFrom, fileLayout, openRefusal, openAnswer}
 use Rattle.boardfile.specs.FieldLaws.{opened-on-grid, opened-length}

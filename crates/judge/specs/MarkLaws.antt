@@ -12,10 +12,11 @@ use Rattle.lists.specs.Lists.{at, upTo}
 use Rattle.lists.specs.Ranges.{member-place, place-member}
 use Rattle.lists.specs.Places.{place-left, place-right, place-map, place-of-map, place-from, length-from, at-place}
 use Rattle.grid.specs.declared.Piece.{Piece}
+use Rattle.grid.specs.Pieces.{Layout}
 use Rattle.channel.specs.Channel.{Channel, width}
 use Rattle.channel.specs.Answers.{Escapes}
 use Rattle.wiring.specs.Pins.{Pin, top, bot, IsPin, pinAt}
-use Rattle.wiring.specs.Layouts.{Layout, Element, pin, copper, Present, Touching, AllOnGrid, Joined, itself, link}
+use Rattle.wiring.specs.Layouts.{Element, pin, copper, Present, Touching, AllOnGrid, Joined, itself, link}
 use Rattle.wiring.specs.Chains.{touching-sym, joined-trans}
 use Rattle.judge.specs.Elements.{elements, elementsTouch}
 use Rattle.judge.specs.TouchTest.{test-sym, Placed, test→touching, touching→test}

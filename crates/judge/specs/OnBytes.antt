@@ -14,11 +14,11 @@ use Rattle.refusal.specs.ChainLaws.{or-else-none, none-or-else, refuse-if-none,
 use Rattle.refusal.specs.Trays.{Tray, scratchTray, shortTray}
 use Rattle.refusal.specs.TrayLaws.{trays-fit, refusal-numbered}
 use Rattle.grid.specs.declared.Piece.{Piece}
-use Rattle.grid.specs.Pieces.{OnGrid}
+use Rattle.grid.specs.Pieces.{OnGrid, Layout}
 use Rattle.channel.specs.Channel.{Channel, width}
 use Rattle.channel.specs.Answers.{rowsRefusal, Escapes}
 use Rattle.channel.specs.EscapeLaws.{accepted-exactly}
-use Rattle.wiring.specs.Layouts.{Layout, AllOnGrid, Good}
+use Rattle.wiring.specs.Layouts.{AllOnGrid, Good}
 use Rattle.boardfile.specs.Open.{openRefusal, fileWidth, fileTracks, fileLayout}
 use Rattle.boardfile.specs.FieldLaws.{opened-on-grid}
 use Rattle.judge.specs.declared.Fault.{Fault}

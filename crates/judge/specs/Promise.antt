@@ -8,10 +8,11 @@ use lib.ListN.{getElem?}
 use Rattle.lists.specs.Lists.{Lowest}
 use Rattle.refusal.specs.Trays.{scratchTray}
 use Rattle.grid.specs.declared.Piece.{Piece}
+use Rattle.grid.specs.Pieces.{Layout}
 use Rattle.channel.specs.Channel.{Channel, width}
 use Rattle.channel.specs.Answers.{Escapes}
 use Rattle.wiring.specs.Pins.{Pin, netOf, IsPin, pinAt}
-use Rattle.wiring.specs.Layouts.{Layout, Good, AllOnGrid, pin, copper, Joined}
+use Rattle.wiring.specs.Layouts.{Good, AllOnGrid, pin, copper, Joined}
 use Rattle.boardfile.specs.Open.{openRefusal, fileWidth, fileLayout}
 use Rattle.judge.specs.declared.Fault.the-variants.{Short, Open, Floating}
 use Rattle.judge.specs.Finding.{finding}

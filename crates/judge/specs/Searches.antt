@@ -15,9 +15,9 @@ use Rattle.lists.specs.Members.{any→member, member→any, keep-member, kept, 
 use Rattle.lists.specs.Firsts.{Passing}
 use Rattle.lists.specs.Places.{keep-keep}
 use Rattle.lists.specs.Tallies.{firstOf, first-is, first-none}
+use Rattle.grid.specs.Pieces.{Layout}
 use Rattle.channel.specs.Channel.{Channel, width, positions}
 use Rattle.channel.specs.Answers.{Escapes}
-use Rattle.wiring.specs.Layouts.{Layout}
 use Rattle.wiring.specs.Pins.{netOf, IsPin, pinAt}
 use Rattle.judge.specs.Finding.{pins, firstOfNet, shorts, opens, floating}
 use Rattle.judge.specs.PinPlaces.{position-net}

@@ -5,12 +5,12 @@ use mathlib.Core.Bool.{Bool, _&&_}
 use lib.Dec.{T, leb}
 use Rattle.lists.specs.Tests.{and-left, and-right, and-both}
 use Rattle.grid.specs.declared.Piece.{Piece}
-use Rattle.grid.specs.Pieces.{left, right, low, high}
+use Rattle.grid.specs.Pieces.{left, right, low, high, Layout}
 use Rattle.grid.specs.Touching.{meet, overlap, touches}
 use Rattle.grid.specs.TouchLaws.{on-grid→boxed, touches→, →touches, meet-sym}
 use Rattle.channel.specs.Channel.{Channel}
 use Rattle.wiring.specs.PinLaws.{pin-touches→, →pin-touches}
-use Rattle.wiring.specs.Layouts.{Layout, Element, pin, copper, Present, Touching, AllOnGrid}
+use Rattle.wiring.specs.Layouts.{Element, pin, copper, Present, Touching, AllOnGrid}
 use Rattle.judge.specs.Elements.{elementsTouch}
 
 touches-turned : (p q : Piece) → T (touches p q) → T (touches q p)

@@ -13,11 +13,11 @@ use Rattle.grid.specs.declared.Piece.{Piece}
 use Rattle.grid.specs.declared.Column.{Column}
 use Rattle.grid.specs.declared.Row.{Row}
 use Rattle.grid.specs.declared.Piece.the-variants.{Trunk, Branch, Contact}
-use Rattle.grid.specs.Pieces.{kindOf, branchKind, left, right, low, high, OnGrid}
+use Rattle.grid.specs.Pieces.{kindOf, branchKind, left, right, low, high, OnGrid, Layout}
 use Rattle.grid.specs.Touching.{covers, touches}
 use Rattle.channel.specs.Channel.{Channel, width}
 use Rattle.wiring.specs.Pins.{Pin, top, bot, columnOf, rowOf, netOf, pinTouches}
-use Rattle.wiring.specs.Layouts.{Layout, Element, pin, copper}
+use Rattle.wiring.specs.Layouts.{Element, pin, copper}
 use Rattle.boardfile.specs.Open.{pieceOf}
 use Rattle.judge.specs.declared.boxes.Cover.{Cover}
 use Rattle.judge.specs.Code.{boxOf, boxesTouch}

@@ -18,13 +18,13 @@ use Rattle.refusal.specs.declared.Refusal.the-variants as refusal
 use Rattle.refusal.specs.Refusals.{numberOf, placeOf, refuseIf, refuseAtFirst, _or-else_, answered, filledUnless}
 use Rattle.refusal.specs.ChainLaws.{or-else-none, answered-none, answered-some}
 use Rattle.refusal.specs.Trays.{shortTray, ringTray, boardTray}
+use Rattle.grid.specs.Pieces.{Layout}
 use Rattle.channel.specs.declared.BoundsAnswer.the-variants as bounds
 use Rattle.channel.specs.Channel.{Channel, width, rows}
 use Rattle.channel.specs.Density.{density}
 use Rattle.channel.specs.Constraints.{Step, chain}
 use Rattle.channel.specs.Answers.{Escapes, rowsRefusal, boundsAnswer}
 use Rattle.channel.specs.EscapeLaws.{accepted-exactly}
-use Rattle.wiring.specs.Layouts.{Layout}
 use Rattle.pinlist.specs.declared.ReadAnswer.{ReadAnswer}
 use Rattle.pinlist.specs.declared.ReadAnswer.the-variants as read
 use Rattle.pinlist.specs.Answers.{garbledRefusal, textChannel, textRefusal, readRefusal, readAnswer, topAfter, botAfter}

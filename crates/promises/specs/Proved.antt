@@ -14,13 +14,14 @@ use Rattle.lists.specs.Places.{length-from}
 use Rattle.lists.specs.Ranges.{length-each}
 use Rattle.lists.specs.Pigeonhole.{length-keep}
 use Rattle.refusal.specs.Trays.{ringTray, boardTray}
+use Rattle.grid.specs.Pieces.{Layout}
 use Rattle.channel.specs.Channel.{Channel, width, highestNet, nets, isNet, pinCount}
 use Rattle.channel.specs.Density.{density}
 use Rattle.channel.specs.Constraints.{chain, Step, netsOf, Ring, Tangled, Unconstrained}
 use Rattle.channel.specs.Answers.{Escapes}
 use Rattle.channel.specs.PathLaws.{path-start-spans}
 use Rattle.channel.specs.ChainLaws.{chain-promise}
-use Rattle.wiring.specs.Layouts.{Layout, Good, OneTrunkEach}
+use Rattle.wiring.specs.Layouts.{Good, OneTrunkEach}
 use Rattle.wiring.specs.Order.{no-ring}
 use Rattle.wiring.specs.Floor.{density-floor}
 use Rattle.leftedge.specs.Items.{Place}

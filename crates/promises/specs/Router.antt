@@ -6,11 +6,12 @@ use mathlib.Core.List.{List}
 use mathlib.Core.Logic.{_↔_}
 use lib.ListN.{length}
 use Rattle.refusal.specs.Trays.{recordTray, ringTray, boardTray}
+use Rattle.grid.specs.Pieces.{Layout}
 use Rattle.channel.specs.Channel.{Channel, width, nets}
 use Rattle.channel.specs.Density.{density}
 use Rattle.channel.specs.Constraints.{chain, Ring, Tangled, Unconstrained}
 use Rattle.channel.specs.Answers.{Escapes}
-use Rattle.wiring.specs.Layouts.{Layout, Good, OneTrunkEach}
+use Rattle.wiring.specs.Layouts.{Good, OneTrunkEach}
 use Rattle.leftedge.specs.Items.{Place}
 use Rattle.leftedge.specs.Fill.{Filling, filled, stuck}
 use Rattle.leftedge.specs.Walk.{ringOf, ringNumbers}

@@ -13,11 +13,12 @@ use Rattle.refusal.specs.declared.Refusal.the-variants as refusal
 use Rattle.refusal.specs.Refusals.{_or-else_, answered, filledUnless}
 use Rattle.refusal.specs.ChainLaws.{none-or-else-later}
 use Rattle.refusal.specs.Trays.{Tray, shortTray}
+use Rattle.grid.specs.Pieces.{Layout}
 use Rattle.channel.specs.Channel.{Channel, width}
 use Rattle.channel.specs.Constraints.{Step, Tangled}
 use Rattle.channel.specs.Answers.{Escapes, rowsRefusal}
 use Rattle.channel.specs.EscapeLaws.{accepted-exactly}
-use Rattle.wiring.specs.Layouts.{Layout, Good, OneTrunkEach}
+use Rattle.wiring.specs.Layouts.{Good, OneTrunkEach}
 use Rattle.leftedge.specs.Items.{Place}
 use Rattle.leftedge.specs.Fill.{Filling, filled, stuck}
 use Rattle.leftedge.specs.Walk.{ringOf, ringNumbers}

@@ -14,13 +14,13 @@ use Rattle.refusal.specs.declared.Refusal.the-variants as refusal
 use Rattle.refusal.specs.Refusals.{numberOf, refuseIf, refuseAtFirst, _or-else_, answered}
 use Rattle.refusal.specs.ChainLaws.{or-else-some, refuse-if-some, refuse-at-first-some}
 use Rattle.refusal.specs.Trays.{ringTray, boardTray}
+use Rattle.grid.specs.Pieces.{Layout}
 use Rattle.channel.specs.declared.RowsAnswer.the-variants as checking
 use Rattle.channel.specs.Channel.{Channel, width, spanning, rows}
 use Rattle.channel.specs.BoundLaws.{refused→some}
 use Rattle.channel.specs.Answers.{tooWide, uneven, highNet, lonePin, rowsRefusal, rowsAnswer, Escapes}
 use Rattle.channel.specs.Spans.{each512, firsts, lasts}
 use Rattle.channel.specs.SpanLaws.{spanning→}
-use Rattle.wiring.specs.Layouts.{Layout}
 use Rattle.leftedge.specs.declared.Outcome.the-variants.{Placed, Stuck}
 use Rattle.leftedge.specs.declared.Filled.{Filled}
 use Rattle.leftedge.specs.Items.{Place, trackOf}

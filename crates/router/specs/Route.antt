@@ -10,10 +10,10 @@ use Rattle.refusal.specs.declared.Refusal.{Refusal}
 use Rattle.refusal.specs.declared.Refusal.the-variants.{Tangled}
 use Rattle.refusal.specs.Refusals.{Told, toldRefusal, toldValues, numberOf, _or-else_, answered, filledUnless}
 use Rattle.refusal.specs.Trays.{Tray, ringTray, boardTray, recordTray, shortTray}
+use Rattle.grid.specs.Pieces.{Layout}
 use Rattle.channel.specs.Channel.{Channel, width}
 use Rattle.channel.specs.Constraints.{Step}
 use Rattle.channel.specs.Answers.{rowsRefusal}
-use Rattle.wiring.specs.Layouts.{Layout}
 use Rattle.leftedge.specs.declared.NetRecord.{NetRecord}
 use Rattle.leftedge.specs.Fill.{Filling, filled, stuck}
 use Rattle.leftedge.specs.Walk.{ringOf, ringNumbers}

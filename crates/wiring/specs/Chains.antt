@@ -1,8 +1,9 @@
 -- Chains of touches: they are put end to end, made longer by one touch, and turned round.
 use Prim.Native.Nat.{ℕ}
 use Rattle.grid.specs.TouchLaws.{touch-sym}
+use Rattle.grid.specs.Pieces.{Layout}
 use Rattle.channel.specs.Channel.{Channel}
-use Rattle.wiring.specs.Layouts.{Layout, Element, pin, copper, Present, Touching, Joined, itself, link}
+use Rattle.wiring.specs.Layouts.{Element, pin, copper, Present, Touching, Joined, itself, link}
 
 pub touching-sym : (t : ℕ) (x y : Element) → Touching t x y → Touching t y x
 unfolding Touching

@@ -8,12 +8,12 @@ use mathlib.Core.List.{List, List·Memᴰ}
 use mathlib.Core.Logic.{_⊎_, inl, inr, ⊎-elim}
 use Rattle.lists.specs.Tests.{equal?}
 use Rattle.grid.specs.declared.Piece.{Piece}
-use Rattle.grid.specs.Pieces.{kindOf, trunkKind, branchKind, contactKind, left, right, low, high, OnGrid}
+use Rattle.grid.specs.Pieces.{kindOf, trunkKind, branchKind, contactKind, left, right, low, high, OnGrid, Layout}
 use Rattle.grid.specs.Touching.{Covers, Touch}
 use Rattle.grid.specs.TouchLaws.{one-row, one-column, crossing-apart, touch-sym}
 use Rattle.channel.specs.Channel.{Channel, width}
 use Rattle.wiring.specs.Pins.{Pin, columnOf, rowOf, PinTouch}
-use Rattle.wiring.specs.Layouts.{Layout, Element, pin, copper, Present, Touching, Joined, itself, link, AllOnGrid}
+use Rattle.wiring.specs.Layouts.{Element, pin, copper, Present, Touching, Joined, itself, link, AllOnGrid}
 use Rattle.wiring.specs.Chains.{joined-snoc}
 
 -- r lies between y and e, ends included

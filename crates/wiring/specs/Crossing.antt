@@ -7,11 +7,11 @@ use mathlib.Core.List.{List·Memᴰ}
 use mathlib.Core.Logic.{_⊎_, inl, inr, ⊎-elim}
 use Rattle.lists.specs.Tests.{equal?}
 use Rattle.grid.specs.declared.Piece.{Piece}
-use Rattle.grid.specs.Pieces.{kindOf, trunkKind, left, right}
+use Rattle.grid.specs.Pieces.{kindOf, trunkKind, left, right, Layout}
 use Rattle.grid.specs.TouchLaws.{one-column}
 use Rattle.channel.specs.Channel.{Channel}
 use Rattle.wiring.specs.Pins.{columnOf}
-use Rattle.wiring.specs.Layouts.{Layout, Element, pin, copper, Present, Touching, Joined, itself, link}
+use Rattle.wiring.specs.Layouts.{Element, pin, copper, Present, Touching, Joined, itself, link}
 use Rattle.wiring.specs.Chains.{joined-snoc, joined-trans}
 
 -- the first and the last column of an element

@@ -11,7 +11,7 @@ use Rattle.lists.specs.Members.{in-upTo}
 use Rattle.lists.specs.Places.{length-from}
 use Rattle.lists.specs.Pigeonhole.{Assigned, injection}
 use Rattle.grid.specs.declared.Piece.{Piece}
-use Rattle.grid.specs.Pieces.{kindOf, trunkKind, left, right, low, high}
+use Rattle.grid.specs.Pieces.{kindOf, trunkKind, left, right, low, high, Layout}
 use Rattle.grid.specs.Touching.{Touch}
 use Rattle.grid.specs.TouchLaws.{one-row, same-kind-meets}
 use Rattle.channel.specs.Channel.{Channel, width, firstColumn, lastColumn, spanning}
@@ -21,7 +21,7 @@ use Rattle.channel.specs.Laws.{PinIn, counted→pin, pin-in-first, pin-in-last}
 use Rattle.channel.specs.SpanLaws.{spanning→}
 use Rattle.channel.specs.DensityLaws.{netsOver, Over, over→, over-distinct, density-reached}
 use Rattle.wiring.specs.Pins.{Pin, netOf, IsPin, columnOf}
-use Rattle.wiring.specs.Layouts.{Layout, Element, pin, copper, Present, Touching, Joined, Good}
+use Rattle.wiring.specs.Layouts.{Element, pin, copper, Present, Touching, Joined, Good}
 use Rattle.wiring.specs.Chains.{joined-trans, joined-snoc, joined-sym}
 use Rattle.wiring.specs.Crossing.{rightOf, TrunkOver, crossing}
 use Rattle.wiring.specs.Order.{PinOf, pin-of}

@@ -1,4 +1,4 @@
--- 01, "Wiring rule": layouts, what is joined in one, when it is good, and which trunks are a net's.
+-- 01, "Wiring rule": what is joined in a layout, when it is good, and which trunks are a net's.
 use Prim.Native.Nat.{ℕ}
 use mathlib.Core.Path.{_≡_}
 use mathlib.Core.List.{List, List·Memᴰ}
@@ -6,15 +6,10 @@ use mathlib.Core.Logic.{_↔_}
 use mathlib.Core.Option.{some}
 use lib.ListN.{getElem?}
 use Rattle.grid.specs.declared.Piece.{Piece}
-use Rattle.grid.specs.Pieces.{kindOf, trunkKind, OnGrid}
+use Rattle.grid.specs.Pieces.{kindOf, trunkKind, OnGrid, Layout}
 use Rattle.grid.specs.Touching.{Touch}
 use Rattle.channel.specs.Channel.{Channel, width}
 use Rattle.wiring.specs.Pins.{Pin, netOf, IsPin, PinTouch}
-
--- "A layout of a channel is a number of tracks t, from 0 up, and any list of pieces"
-pub record Layout : Type 0 where
-  pub tracks : ℕ
-  pub pieces : List Piece
 
 -- what can touch: pins and pieces
 pub data Element : Type 0 where

@@ -11,7 +11,7 @@ use lib.ListN.{getElem?}
 use Rattle.lists.specs.Lists.{at, headOr}
 use Rattle.lists.specs.Ranges.{member-place}
 use Rattle.grid.specs.declared.Piece.{Piece}
-use Rattle.grid.specs.Pieces.{kindOf, trunkKind, branchKind, low, high}
+use Rattle.grid.specs.Pieces.{kindOf, trunkKind, branchKind, low, high, Layout}
 use Rattle.grid.specs.Touching.{Covers, Touch}
 use Rattle.grid.specs.TouchLaws.{one-row, same-kind-meets}
 use Rattle.channel.specs.Channel.{Channel, width}
@@ -20,7 +20,7 @@ use Rattle.channel.specs.Answers.{Escapes}
 use Rattle.channel.specs.Laws.{PinIn, net-positive}
 use Rattle.channel.specs.SpanLaws.{upper-another, lower-another}
 use Rattle.wiring.specs.Pins.{Pin, top, bot, columnOf, rowOf, netOf, IsPin}
-use Rattle.wiring.specs.Layouts.{Layout, Element, pin, copper, Present, Touching, Joined, Good, TrunkOf, OneTrunkEach}
+use Rattle.wiring.specs.Layouts.{Element, pin, copper, Present, Touching, Joined, Good, TrunkOf, OneTrunkEach}
 use Rattle.wiring.specs.Chains.{joined-trans, joined-snoc, joined-sym}
 use Rattle.wiring.specs.Columns.{InColumn, Leaves, leaves}
 
