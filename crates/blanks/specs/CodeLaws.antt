@@ -1,4 +1,5 @@
--- What the search through the table has learnt, turned into the answer: where the entries passed are below t, the first that is not is the smallest that holds t.
+-- What the search through the table has learnt, turned into the answer: where the entries passed are below t, the first
+-- that is not is the smallest that holds t.
 use Prim.Native.Nat.{ℕ, zero, suc, _≤_, _<_}
 use native.Mathlib.Omega.{arith}
 use mathlib.Core.Path.{_≡_, refl}
@@ -18,14 +19,17 @@ use Rattle.blanks.specs.Stock.{stock, smallestFor, noBlank, blankAnswer}
 abbrev pub TooSmall : List ℕ → ℕ → ℕ → Type 0
 TooSmall table t i = (k : ℕ) → k < i → getD table k 0 < t
 
-first-that-holds : (table : List ℕ) (t i : ℕ) → i < length table → TooSmall table t i → t ≤ getD table i 0 → smallestFor table t ≡ getD table i 0
+first-that-holds : (table : List ℕ) (t i : ℕ) → i < length table → TooSmall table t i → t ≤ getD table i 0
+    → smallestFor table t ≡ getD table i 0
 unfolding smallestFor keep headOr
 first-that-holds [] t i h below holds = absurd (omega arith)
 first-that-holds (x ∷ xs) t zero h below holds = rw (le-leb t x holds)
-first-that-holds (x ∷ xs) t (suc i) h below holds = rw (lt-leb t x (below 0 (omega arith))) (first-that-holds xs t i (omega arith) (λ k l. below (suc k) (omega arith)) holds)
+first-that-holds (x ∷ xs) t (suc i) h below holds =
+    rw (lt-leb t x (below 0 (omega arith)))
+    (first-that-holds xs t i (omega arith) (λ k l. below (suc k) (omega arith)) holds)
 
 -- the test that is computed over the whole table
-none-over : T (allOf (λ b. leb b 512) stock)
+pub none-over : T (allOf (λ b. leb b 512) stock)
 unfolding allOf stock
 none-over = tt
 

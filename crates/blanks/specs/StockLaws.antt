@@ -1,4 +1,5 @@
--- The rule of the stock blanks, over any rising table: where some blank holds t, the first that does is the smallest that does.
+-- The rule of the stock blanks, over any rising table: where some blank holds t, the first that does is the smallest
+-- that does.
 use Prim.Native.Nat.{ℕ, _≤_}
 use mathlib.Core.List.{List, List·Memᴰ}
 use lib.Dec.{T, leb, leb→le, le→leb}
@@ -18,7 +19,12 @@ unfolding smallestFor
 smallest-holds table t b m h r =
     let those = kept (leb t) m (le→leb t b h) in
     let first = keep-member (leb t) table (head-member 0 those) in
-    record { inTable = first .0; holds = leb→le t (headOr 0 (keep (leb t) table)) (first .1); smallest = λ c k l. head-least (keep (leb t) table) 0 (keep-rising (leb t) table r) (kept (leb t) k (le→leb t c l)) }
+    record {
+      inTable = first .0;
+      holds = leb→le t (headOr 0 (keep (leb t) table)) (first .1);
+      smallest = λ c k l. head-least (keep (leb t) table) 0 (keep-rising (leb t) table r)
+          (kept (leb t) k (le→leb t c l));
+    }
 
 -- the test that is computed over the whole table
 stock-rises : T (rises stock)

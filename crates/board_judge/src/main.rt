@@ -1,4 +1,5 @@
-// Judges the file `board` against the pin list in the file `pins`. A file that cannot be opened counts as empty, and `board` is read only where `pins` passes.
+// Judges the file `board` against the pin list in the file `pins`. A file that cannot be opened counts as empty, and
+// `board` is read only where `pins` passes.
 ghost use Rattle.io.specs.Counts.{Counts};
 use libc::STDOUT_FILENO;
 

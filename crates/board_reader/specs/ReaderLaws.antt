@@ -1,5 +1,5 @@
--- A reader opened over a file that opens answers each piece of its layout under its number, counted from 1; under every other number, and under any number
--- of bytes that do not open, it refuses.
+-- A reader opened over a file that opens answers each piece of its layout under its number, counted from 1; under every
+-- other number, and under any number of bytes that do not open, it refuses.
 use Prim.Native.Nat.{ℕ, zero, suc, _≤_, _<_}
 use native.Mathlib.Omega.{arith}
 use mathlib.Core.Path.{_≡_, refl, sym, _∙_}
@@ -32,7 +32,8 @@ refused-count bs r h = rw (h, answered, countIn)
 pub outside : (bs : List ℕ) (count n : ℕ) → ((n ≡ 0) ⊎ (count < n)) → readerPiece bs count n ≡ Refused (BadField n)
 unfolding readerPiece
 outside bs count n h =
-    rw (fails→false (within 1 n count) (λ t. let w = within→ 1 n count t in let low = w .0 in let high = w .1 in ⊎-elim (λ e. absurd (omega arith)) (λ l. absurd (omega arith)) h))
+    rw (fails→false (within 1 n count) (λ t. let w = within→ 1 n count t in let low = w .0 in let high = w .1 in
+    ⊎-elim (λ e. absurd (omega arith)) (λ l. absurd (omega arith)) h))
 
 -- and one within is answered as the file has it
 pub inside : (bs : List ℕ) (count n : ℕ) → 1 ≤ n → n ≤ count → readerPiece bs count n ≡ pieceAnswer bs n
@@ -42,19 +43,28 @@ inside bs count n low high = rw (T→true (within 1 n count) (→within 1 n coun
 -- a number is outside of a count or within
 outside-or-inside : (count n : ℕ) → ((n ≡ 0) ⊎ (count < n)) ⊎ ((1 ≤ n) × (n ≤ count))
 outside-or-inside count zero = inl (inl refl)
-outside-or-inside count (suc n) = ⊎-elim (λ t. inr (omega arith, leb→le (suc n) count t)) (λ f. inl (inr (let no : suc n ≤ count → ⊥ = λ l. f (le→leb (suc n) count l) in omega arith))) (passes? (leb (suc n) count))
+outside-or-inside count (suc n) =
+    ⊎-elim (λ t. inr (omega arith, leb→le (suc n) count t))
+    (λ f. inl (inr (let no : suc n ≤ count → ⊥ = λ l. f (le→leb (suc n) count l) in omega arith)))
+    (passes? (leb (suc n) count))
 
 -- by the header's count a file that opens is answered at each number as the file has it
 as-filed : (bs : List ℕ) → openRefusal bs ≡ none → (n : ℕ) → readerPiece bs (fileCount bs) n ≡ pieceAnswer bs n
-as-filed bs h n = ⊎-elim (λ out. outside bs (fileCount bs) n out ∙ sym (no-piece-numbered bs h n out)) (λ w. inside bs (fileCount bs) n (w .0) (w .1)) (outside-or-inside (fileCount bs) n)
+as-filed bs h n =
+    ⊎-elim (λ out. outside bs (fileCount bs) n out ∙ sym (no-piece-numbered bs h n out))
+    (λ w. inside bs (fileCount bs) n (w .0) (w .1)) (outside-or-inside (fileCount bs) n)
 
 -- the n-th piece of a file that opens
-pub reads : (bs : List ℕ) → openRefusal bs ≡ none → (n : ℕ) (p : Piece) → getElem? (fileLayout bs .pieces) n ≡ some p → readAnswer bs (suc n) ≡ Found p
+pub reads : (bs : List ℕ) → openRefusal bs ≡ none → (n : ℕ) (p : Piece) → getElem? (fileLayout bs .pieces) n ≡ some p
+    → readAnswer bs (suc n) ≡ Found p
 reads bs h n p at = rw (opened-count bs h) (as-filed bs h (suc n) ∙ piece-numbered bs h n p at)
 
 -- every other number, and bytes that do not open
 pub reads-no-other : (bs : List ℕ) (n : ℕ) → ((n ≡ 0) ⊎ (readerCount bs < n)) → readAnswer bs n ≡ Refused (BadField n)
 reads-no-other bs n h = outside bs (readerCount bs) n h
 
-pub reads-none-refused : (bs : List ℕ) (r : Refusal) → openRefusal bs ≡ some r → (n : ℕ) → readAnswer bs n ≡ Refused (BadField n)
-reads-none-refused bs r h n = rw (refused-count bs r h) (outside bs 0 n (⊎-elim (λ out. out) (λ w. let low = w .0 in inr (omega arith)) (outside-or-inside 0 n)))
+pub reads-none-refused : (bs : List ℕ) (r : Refusal) → openRefusal bs ≡ some r → (n : ℕ)
+    → readAnswer bs n ≡ Refused (BadField n)
+reads-none-refused bs r h n =
+    rw (refused-count bs r h) (outside bs 0 n (⊎-elim (λ out. out) (λ w. let low = w .0 in inr (omega arith))
+    (outside-or-inside 0 n)))

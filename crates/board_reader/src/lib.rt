@@ -1,5 +1,6 @@
-// The board reader: opened over the lent bytes of a board file, it answers the piece of a given number. The checker covers no function over a struct that
-// holds a slice, so those are thin and proved by walks; the branches are in functions on the slice and the numbers.
+// The board reader: opened over the lent bytes of a board file, it answers the piece of a given number. The checker
+// covers no function over a struct that holds a slice, so those are thin and proved by walks; the branches are in
+// functions on the slice and the numbers.
 ghost use mathlib.Core.Path.{_≡_};
 ghost use Rattle.boardfile.specs.Open.{openAnswer};
 ghost use Rattle.board_reader.specs.Reader.{readerCount, readerPiece, readAnswer};
@@ -37,7 +38,8 @@ fn piece_within(board: &[u8], count: usize, number: usize) -> PieceAnswer
     boardfile::piece_at(board, number)
 }
 
-// Opens a reader over bytes of any kind. A file that is refused has a reader too, which tells the refusal and answers no piece.
+// Opens a reader over bytes of any kind. A file that is refused has a reader too, which tells the refusal and answers
+// no piece.
 pub fn over<'a>(board: &'a [u8]) -> BoardReader<'a>
     ensures { λ r. ⌜ (r .board ≡ board .entry) × (r .count ≡ readerCount (now (board .entry))) ⌝ }
 {

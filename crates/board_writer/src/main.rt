@@ -1,4 +1,5 @@
-// Reads a pin list on standard input and writes its board file. One byte more than the limit is read, to see that there is more.
+// Reads a pin list on standard input and writes its board file. One byte more than the limit is read, to see that there
+// is more.
 use libc::STDIN_FILENO;
 use libc::STDOUT_FILENO;
 

@@ -7,3 +7,4 @@ pub mod CodeLaws
 pub mod BitLaws
 pub mod Promise
 pub mod RoundTrip
+pub mod ToldLaws

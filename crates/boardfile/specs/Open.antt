@@ -1,4 +1,5 @@
--- 01, "Board file": what opening a board file of any bytes answers, and what the reader answers to the number of a piece.
+-- 01, "Board file": what opening a board file of any bytes answers, and what the reader answers to the number of a
+-- piece.
 use Prim.Native.Nat.{ℕ, zero, suc, _+_, _*_, _/_, _%_}
 use mathlib.Core.List.{List, [], _∷_}
 use mathlib.Core.Bool.{Bool, cond, _&&_, _||_, not}
@@ -12,6 +13,8 @@ use Rattle.refusal.specs.Refusals.{Told, toldRefusal, toldValues, refuseIf, ref
 use Rattle.grid.specs.declared.Piece.{Piece}
 use Rattle.grid.specs.Pieces.{kindOf, Layout}
 use Rattle.grid.specs.Words.{lineOf, fromOf, toOf, fieldsRight, makePiece}
+use Rattle.boardfile.specs.declared.Header.{Header}
+use Rattle.boardfile.specs.declared.Fields.{Fields}
 use Rattle.boardfile.specs.declared.OpenAnswer.{OpenAnswer}
 use Rattle.boardfile.specs.declared.OpenAnswer.the-variants as opening
 use Rattle.boardfile.specs.declared.PieceAnswer.{PieceAnswer}
@@ -21,39 +24,33 @@ use Rattle.boardfile.specs.declared.PieceAnswer.the-variants as reading
 unfoldable pub wordAt : List ℕ → ℕ → ℕ
 wordAt bs i = getD bs i 0 * 16777216 + getD bs (i + 1) 0 * 65536 + getD bs (i + 2) 0 * 256 + getD bs (i + 3) 0
 
--- the header's fields
+-- "Header: width 10 bits, tracks 9, piece count 12, spare 1 (zero)"
+unfoldable pub headerOf : ℕ → Header
+headerOf v = record { width = v / 4194304; tracks = v / 8192 % 512; count = v / 2 % 4096; spare = v % 2 }
+
+-- "Each piece: kind 2 bits .., line 10, from 10, to 10"
+unfoldable pub fieldsOf : ℕ → Fields
+fieldsOf v = record { kind = v / 1073741824; line = v / 1048576 % 1024; from = v / 1024 % 1024; to = v % 1024 }
+
 unfoldable pub fileWidth : List ℕ → ℕ
-fileWidth bs = wordAt bs 0 / 4194304
+fileWidth bs = headerOf (wordAt bs 0) .width
 
 unfoldable pub fileTracks : List ℕ → ℕ
-fileTracks bs = wordAt bs 0 / 8192 % 512
+fileTracks bs = headerOf (wordAt bs 0) .tracks
 
 unfoldable pub fileCount : List ℕ → ℕ
-fileCount bs = wordAt bs 0 / 2 % 4096
+fileCount bs = headerOf (wordAt bs 0) .count
 
 unfoldable pub fileSpare : List ℕ → ℕ
-fileSpare bs = wordAt bs 0 % 2
-
--- the fields of a piece's word
-unfoldable pub wordKind : ℕ → ℕ
-wordKind v = v / 1073741824
-
-unfoldable pub wordLine : ℕ → ℕ
-wordLine v = v / 1048576 % 1024
-
-unfoldable pub wordFrom : ℕ → ℕ
-wordFrom v = v / 1024 % 1024
-
-unfoldable pub wordTo : ℕ → ℕ
-wordTo v = v % 1024
+fileSpare bs = headerOf (wordAt bs 0) .spare
 
 -- the fields of the word are in their ranges
 unfoldable pub wordRight : ℕ → ℕ → ℕ → Bool
-wordRight w t v = fieldsRight w t (wordKind v) (wordLine v) (wordFrom v) (wordTo v)
+wordRight w t v = let f = fieldsOf v in fieldsRight w t (f .kind) (f .line) (f .from) (f .to)
 
 -- the piece of a word whose fields are right
 unfoldable pub pieceOf : ℕ → Piece
-pieceOf v = makePiece (wordKind v) (wordLine v) (wordFrom v) (wordTo v)
+pieceOf v = let f = fieldsOf v in makePiece (f .kind) (f .line) (f .from) (f .to)
 
 -- 8: "wrong length; length due (4 if under 4)". "Length is 4 + 4 times the count"
 unfoldable pub torn : List ℕ → Option Refusal
@@ -65,7 +62,8 @@ torn bs =
 unfoldable pub badField : List ℕ → Option Refusal
 badField bs =
     refuseIf (not (within 1 (fileWidth bs) 512) || eqb (fileSpare bs) 1) (BadField 0)
-    or-else refuseAtFirst BadField (keep (λ i. not (wordRight (fileWidth bs) (fileTracks bs) (wordAt bs (4 * i)))) (upTo (fileCount bs)))
+    or-else refuseAtFirst BadField
+    (keep (λ i. not (wordRight (fileWidth bs) (fileTracks bs) (wordAt bs (4 * i)))) (upTo (fileCount bs)))
 
 unfoldable pub openRefusal : List ℕ → Option Refusal
 openRefusal bs = torn bs or-else badField bs
@@ -90,7 +88,9 @@ openTold (opening.Refused r) = toldRefusal r
 -- Bytes that do not open may lack the piece's word or have a bad one: that is no piece of that number either
 unfoldable pub pieceAnswer : List ℕ → ℕ → PieceAnswer
 pieceAnswer bs n =
-    cond (within 1 n (fileCount bs) && (leb (4 * n + 4) (length bs) && wordRight (fileWidth bs) (fileTracks bs) (wordAt bs (4 * n))))
+    cond
+    (within 1 n (fileCount bs)
+    && (leb (4 * n + 4) (length bs) && wordRight (fileWidth bs) (fileTracks bs) (wordAt bs (4 * n))))
     (reading.Found (pieceOf (wordAt bs (4 * n))))
     (reading.Refused (BadField n))
 

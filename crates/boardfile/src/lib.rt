@@ -1,15 +1,20 @@
 // The board file: the words that a writer puts, and what the reader of a file of any bytes answers.
 ghost use mathlib.Core.Path.{_≡_};
-ghost use Prim.Native.Nat.{ℕ, _+_, _*_, _≤_, _<_};
+ghost use Prim.Native.Nat.{_+_, _*_, _≤_, _<_};
 ghost use lib.ListN.{length};
 ghost use lib.Seq.{sets};
 ghost use Rattle.boardfile.specs.Encode.{word, header, pieceWord};
-ghost use Rattle.boardfile.specs.Open.{wordAt, wordRight, pieceOf, openAnswer, pieceAnswer};
+ghost use Rattle.boardfile.specs.Open.{wordAt, headerOf, fieldsOf, wordRight, pieceOf};
+ghost use Rattle.boardfile.specs.Open.{openAnswer, pieceAnswer};
 ghost use Rattle.boardfile.specs.Code.{SmallWords, firstBad};
+use grid::BRANCH;
+use grid::CONTACT;
 use grid::Column;
 use grid::Piece;
 use grid::Row;
+use grid::TRUNK;
 use grid::Track;
+use grid::WIDEST;
 use refusal::Refusal;
 
 // What opening a board file answers.
@@ -22,6 +27,22 @@ pub enum OpenAnswer {
 pub enum PieceAnswer {
     Found(Piece),
     Refused(Refusal),
+}
+
+// The fields of the header's word.
+pub struct Header {
+    pub width: u32,
+    pub tracks: u32,
+    pub count: u32,
+    pub spare: u32,
+}
+
+// The fields of a piece's word.
+pub struct Fields {
+    pub kind: u32,
+    pub line: u32,
+    pub from: u32,
+    pub to: u32,
 }
 
 // A byte as a number.
@@ -40,6 +61,30 @@ pub fn word_at(board: &[u8], at: usize) -> u32
         + wide(board[at + 1]) * 65536
         + wide(board[at + 2]) * 256
         + wide(board[at + 3])
+}
+
+// The header of its word.
+pub fn header_of(head: u32) -> Header
+    ensures { λ r. ⌜ r ≡ headerOf head ⌝ }
+{
+    Header {
+        width: head / 4194304,
+        tracks: head / 8192 % 512,
+        count: head / 2 % 4096,
+        spare: head % 2,
+    }
+}
+
+// The fields of the word of a piece.
+pub fn fields_of(word: u32) -> Fields
+    ensures { λ r. ⌜ r ≡ fieldsOf word ⌝ }
+{
+    Fields {
+        kind: word / 1073741824,
+        line: word / 1048576 % 1024,
+        from: word / 1024 % 1024,
+        to: word % 1024,
+    }
 }
 
 // Four bytes of a word, most significant first, at byte `at`; the other bytes stay.
@@ -90,17 +135,19 @@ fn word_right(width: u32, tracks: u32, v: u32) -> bool
     requires { ⌜ tracks < 512 ⌝ }
     ensures { λ r. ⌜ r ≡ wordRight width tracks v ⌝ }
 {
-    let kind = v / 1073741824;
-    let line = v / 1048576 % 1024;
-    let from = v / 1024 % 1024;
-    let to = v % 1024;
-    if kind == 0 {
+    let Fields {
+        kind,
+        line,
+        from,
+        to,
+    } = fields_of(v);
+    if kind == TRUNK {
         return (1 <= line) & (line <= tracks) & ((1 <= from) & ((from < to) & (to <= width)));
     }
-    if kind == 1 {
+    if kind == BRANCH {
         return (1 <= line) & (line <= width) & ((from < to) & (to <= tracks + 1));
     }
-    if kind == 2 {
+    if kind == CONTACT {
         return (1 <= line) & (line <= width) & ((1 <= from) & (from <= tracks) & (from == to));
     }
     false
@@ -110,18 +157,20 @@ fn word_right(width: u32, tracks: u32, v: u32) -> bool
 fn piece_of(v: u32) -> Piece
     ensures { λ r. ⌜ r ≡ pieceOf v ⌝ }
 {
-    let kind = v / 1073741824;
-    let line = v / 1048576 % 1024;
-    let from = v / 1024 % 1024;
-    let to = v % 1024;
-    if kind == 0 {
+    let Fields {
+        kind,
+        line,
+        from,
+        to,
+    } = fields_of(v);
+    if kind == TRUNK {
         return Piece::Trunk {
             track: Track(line),
             first: Column(from),
             last: Column(to),
         };
     }
-    if kind == 1 {
+    if kind == BRANCH {
         return Piece::Branch {
             column: Column(line),
             low: Row(from),
@@ -156,15 +205,17 @@ pub fn open(board: &[u8]) -> OpenAnswer
     if board.len() < 4 {
         return OpenAnswer::Refused(Refusal::Torn(4));
     }
-    let head = word_at(board, 0);
-    let width = head / 4194304;
-    let tracks = head / 8192 % 512;
-    let count = head / 2 % 4096;
+    let Header {
+        width,
+        tracks,
+        count,
+        spare,
+    } = header_of(word_at(board, 0));
     let due = 4 + 4 * count as usize;
     if board.len() != due {
         return OpenAnswer::Refused(Refusal::Torn(due));
     }
-    if width < 1 || 512 < width || head % 2 == 1 {
+    if width < 1 || WIDEST < width as usize || spare == 1 {
         return OpenAnswer::Refused(Refusal::BadField(0));
     }
     let bad = first_bad(board, width, tracks, count);
@@ -178,18 +229,22 @@ pub fn open(board: &[u8]) -> OpenAnswer
     }
 }
 
-// The piece of a given number, from 1; another number is refused with that number as place. It takes bytes that were never opened too.
+// The piece of a given number, from 1; another number is refused with that number as place. It takes bytes that were
+// never opened too.
 pub fn piece_at(board: &[u8], number: usize) -> PieceAnswer
     ensures { λ r. ⌜ r ≡ pieceAnswer (now (board .entry)) number ⌝ }
 {
     if board.len() < 4 {
         return PieceAnswer::Refused(Refusal::BadField(number));
     }
-    let head = word_at(board, 0);
-    let width = head / 4194304;
-    let tracks = head / 8192 % 512;
-    let count = (head / 2 % 4096) as usize;
-    if number < 1 || count < number {
+    let Header {
+        width,
+        tracks,
+        count,
+        spare: _,
+    } = header_of(word_at(board, 0));
+    let pieces = count as usize;
+    if number < 1 || pieces < number {
         return PieceAnswer::Refused(Refusal::BadField(number));
     }
     if board.len() < 4 * number + 4 {

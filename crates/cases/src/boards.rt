@@ -1,4 +1,8 @@
 // Board files, pieces and blanks.
+ghost use mathlib.Core.Path.{_≡_};
+ghost use mathlib.Core.Bool.{true};
+ghost use lib.ListN.{length};
+ghost use lib.Dec.{leb, eqb};
 use crate::output;
 use blanks::BlankAnswer;
 use boardfile::OpenAnswer;
@@ -13,7 +17,10 @@ fn put_three(a: u32, b: u32, c: u32) {
     output::put_word(b"\n");
 }
 
-pub fn answer_open(board: &[u8]) -> bool {
+// Any bytes make a question.
+pub fn answer_open(board: &[u8]) -> bool
+    ensures { λ r. ⌜ r ≡ true ⌝ }
+{
     output::put_word(b"OPEN");
     match board_reader::open(board) {
         OpenAnswer::Board {
@@ -47,26 +54,28 @@ fn put_piece(piece: Piece) {
     }
 }
 
-// The piece number in two bytes, and a board.
-pub fn answer_piece(bytes: &[u8]) -> bool {
-    if bytes.len() < 2 {
-        return false;
-    }
+fn ask_piece(board: &[u8], number: usize) {
     output::put_word(b"PIECE");
-    match board_reader::read_piece(&bytes[2..], output::pair(bytes[0], bytes[1])) {
+    match board_reader::read_piece(board, number) {
         PieceAnswer::Found(piece) => put_piece(piece),
         PieceAnswer::Refused(refusal) => output::put_refusal(refusal),
     }
+}
+
+// The piece number in two bytes, and a board.
+pub fn answer_piece(bytes: &[u8]) -> bool
+    ensures { λ r. ⌜ r ≡ leb 2 (length (now (bytes .entry))) ⌝ }
+{
+    if bytes.len() < 2 {
+        return false;
+    }
+    ask_piece(&bytes[2..], output::pair(bytes[0], bytes[1]));
     true
 }
 
-// A number of tracks in two bytes.
-pub fn answer_blank(bytes: &[u8]) -> bool {
-    if bytes.len() != 2 {
-        return false;
-    }
+fn ask_blank(tracks: u32) {
     output::put_word(b"BLANK");
-    match blanks::blank(output::pair(bytes[0], bytes[1]) as u32) {
+    match blanks::blank(tracks) {
         BlankAnswer::Blank(held) => {
             output::put_field(0);
             output::put_field(held as u64);
@@ -74,5 +83,15 @@ pub fn answer_blank(bytes: &[u8]) -> bool {
         }
         BlankAnswer::Refused(refusal) => output::put_refusal(refusal),
     }
+}
+
+// A number of tracks in two bytes.
+pub fn answer_blank(bytes: &[u8]) -> bool
+    ensures { λ r. ⌜ r ≡ eqb (length (now (bytes .entry))) 2 ⌝ }
+{
+    if bytes.len() != 2 {
+        return false;
+    }
+    ask_blank(output::pair(bytes[0], bytes[1]) as u32);
     true
 }

@@ -1,14 +1,20 @@
 // Channels handed over as rows, and boards judged against them.
-ghost use Prim.Native.Nat.{_≤_};
+ghost use mathlib.Core.Path.{_≡_};
+ghost use Prim.Native.Nat.{_*_, _≤_, min};
 ghost use lib.ListN.{length};
+ghost use Rattle.refusal.specs.Trays.{recordTray};
+ghost use Rattle.cases.specs.Cases.{rowsFit, rowsWhole, judgeWhole};
 use crate::output;
 use crate::rows;
 use channel::BoundsAnswer;
 use channel::RowsAnswer;
-use judge::Fault;
 use judge::JudgeAnswer;
 use leftedge::NetRecord;
+use refusal::BOARD_TRAY;
+use refusal::RECORD_TRAY;
+use refusal::RING_TRAY;
 use refusal::Refusal;
+use refusal::SCRATCH_TRAY;
 use router::RouteAnswer;
 
 fn put_check(top: &[u32], bot: &[u32]) {
@@ -33,10 +39,10 @@ fn put_bounds(top: &[u32], bot: &[u32]) {
 }
 
 // The track of each net, by rising number.
-fn put_tracks(records: [NetRecord; 511], count: usize) {
+fn put_tracks(records: [NetRecord; RECORD_TRAY], count: usize) {
     output::put_word(b"TRACKS");
     let mut i: usize = 0;
-    while i < 511 {
+    while i < RECORD_TRAY {
         if i < count {
             let record = records[i];
             output::put_number(record.track.0);
@@ -59,18 +65,20 @@ fn put_unfilled(refusal: Refusal, ring: &[u32]) {
     }
 }
 
-// Twice a number of at most 511.
-fn doubled(n: usize) -> usize {
-    if 511 < n {
-        return 1022;
+// Twice a number of pairs, of which a ring has at most as many as the table has records.
+fn doubled(n: usize) -> usize
+    ensures { λ r. ⌜ r ≡ 2 * min n recordTray ⌝ }
+{
+    if RECORD_TRAY < n {
+        return RING_TRAY;
     }
     2 * n
 }
 
 // Routes rows; the ring buffer holds 7777 everywhere before.
 fn put_fill(top: &[u32], bot: &[u32]) {
-    let mut ring = [7777u32; 1022];
-    let mut board = [0u8; 10240];
+    let mut ring = [output::MARK; RING_TRAY];
+    let mut board = [0u8; BOARD_TRAY];
     output::put_word(b"FILL");
     let routing = router::route_rows(top, bot, &mut ring, &mut board);
     let answer = routing.answer;
@@ -87,16 +95,8 @@ fn put_fill(top: &[u32], bot: &[u32]) {
     }
 }
 
-fn put_fault(fault: Fault) {
-    match fault {
-        Fault::Short(place) => output::put_numbered(11, place),
-        Fault::Open(place) => output::put_numbered(12, place),
-        Fault::Floating(piece) => output::put_numbered(13, piece),
-    }
-}
-
 fn put_judged(top: &[u32], bot: &[u32], board: &[u8]) {
-    let mut scratch = [0u32; 10238];
+    let mut scratch = [0u32; SCRATCH_TRAY];
     output::put_word(b"JUDGE");
     match judge::judge(top, bot, board, &mut scratch) {
         JudgeAnswer::Good(tracks) => {
@@ -104,7 +104,9 @@ fn put_judged(top: &[u32], bot: &[u32], board: &[u8]) {
             output::put_field(tracks as u64);
             output::put_word(b"\n");
         }
-        JudgeAnswer::Faulty(fault) => put_fault(fault),
+        JudgeAnswer::Faulty(fault) => {
+            output::put_numbered(judge::fault_number(fault), judge::fault_place(fault))
+        }
         JudgeAnswer::Refused(refusal) => output::put_refusal(refusal),
     }
 }
@@ -119,7 +121,8 @@ fn ask(kind: u8, top: &[u32], bot: &[u32], board: &[u8]) {
     }
 }
 
-// The same of the rows in `bytes`, of which TOP has a numbers and BOT b, read into lent ones; answers whether those are long enough.
+// The same of the rows in `bytes`, of which TOP has a numbers and BOT b, read into lent ones; answers whether those are
+// long enough.
 fn ask_rows(
     kind: u8,
     bytes: &[u8],
@@ -130,6 +133,7 @@ fn ask_rows(
     bot: &mut [u32],
 ) -> bool
     requires { ⌜ (length (now top) ≤ 1024) × (length (now bot) ≤ 1024) ⌝ }
+    ensures { λ r. ⌜ r ≡ rowsFit a b (length (now (top .entry))) (length (now (bot .entry))) ⌝ }
 {
     if top.len() < a {
         return false;
@@ -144,11 +148,13 @@ fn ask_rows(
 }
 
 // The same where the length of TOP stands in front of the rows.
-fn ask_sized(kind: u8, bytes: &[u8], board: &[u8]) -> bool {
+fn ask_sized(kind: u8, bytes: &[u8], board: &[u8]) -> bool
+    ensures { λ r. ⌜ r ≡ rowsWhole (now (bytes .entry)) ⌝ }
+{
     if bytes.len() < 2 {
         return false;
     }
-    let a = output::pair(bytes[0], bytes[1]);
+    let a = rows::number_at(bytes, 0) as usize;
     let all = (bytes.len() - 2) / 2;
     if all < a {
         return false;
@@ -158,24 +164,32 @@ fn ask_sized(kind: u8, bytes: &[u8], board: &[u8]) -> bool {
     ask_rows(kind, bytes, a, all - a, board, &mut top, &mut bot)
 }
 
-pub fn answer_check(bytes: &[u8]) -> bool {
+pub fn answer_check(bytes: &[u8]) -> bool
+    ensures { λ r. ⌜ r ≡ rowsWhole (now (bytes .entry)) ⌝ }
+{
     ask_sized(4, bytes, b"")
 }
 
-pub fn answer_bounds(bytes: &[u8]) -> bool {
+pub fn answer_bounds(bytes: &[u8]) -> bool
+    ensures { λ r. ⌜ r ≡ rowsWhole (now (bytes .entry)) ⌝ }
+{
     ask_sized(5, bytes, b"")
 }
 
-pub fn answer_fill(bytes: &[u8]) -> bool {
+pub fn answer_fill(bytes: &[u8]) -> bool
+    ensures { λ r. ⌜ r ≡ rowsWhole (now (bytes .entry)) ⌝ }
+{
     ask_sized(6, bytes, b"")
 }
 
 // The length of the rows' bytes in two bytes, the rows, and a board.
-pub fn answer_judge(bytes: &[u8]) -> bool {
+pub fn answer_judge(bytes: &[u8]) -> bool
+    ensures { λ r. ⌜ r ≡ judgeWhole (now (bytes .entry)) ⌝ }
+{
     if bytes.len() < 2 {
         return false;
     }
-    let end = 2 + output::pair(bytes[0], bytes[1]);
+    let end = 2 + rows::number_at(bytes, 0) as usize;
     if bytes.len() < end {
         return false;
     }

@@ -1,5 +1,7 @@
 // Writing words and numbers, and reading numbers of two bytes.
+ghost use mathlib.Core.Path.{_≡_};
 ghost use Prim.Native.Nat.{_<_};
+ghost use Rattle.cases.specs.Cases.{isKept, pairOf};
 use libc::STDOUT_FILENO;
 use refusal::Refusal;
 
@@ -40,11 +42,16 @@ pub fn put_row(row: &[u32], count: usize) {
     put_word(b"\n");
 }
 
-// Whether every number from place `from` on is 7777.
-pub fn is_kept(row: &[u32], from: usize) -> bool {
+// What buffers hold everywhere before a question.
+pub const MARK: u32 = 7777;
+
+// Whether every number from place `from` on is the mark.
+pub fn is_kept(row: &[u32], from: usize) -> bool
+    ensures { λ r. ⌜ r ≡ isKept (now (row .entry)) from ⌝ }
+{
     let mut i = from;
     while i < row.len() {
-        if row[i] != 7777 {
+        if row[i] != MARK {
             return false;
         }
         i += 1;
@@ -61,14 +68,14 @@ pub fn put_kept_word(kept: bool) {
 }
 
 fn wide(b: u8) -> usize
-    ensures { λ r. ⌜ r < 256 ⌝ }
+    ensures { λ r. ⌜ (r ≡ b) × (r < 256) ⌝ }
 {
     b as usize
 }
 
 // The number in two bytes, most significant first.
 pub fn pair(high: u8, low: u8) -> usize
-    ensures { λ r. ⌜ r < 65536 ⌝ }
+    ensures { λ r. ⌜ (r ≡ pairOf high low) × (r < 65536) ⌝ }
 {
     wide(high) * 256 + wide(low)
 }

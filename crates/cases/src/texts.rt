@@ -1,9 +1,12 @@
-// Pin lists, read into rows that hold 7777 everywhere before.
+// Pin lists, read into rows that hold the mark everywhere before.
+ghost use mathlib.Core.Path.{_≡_};
+ghost use mathlib.Core.Bool.{true};
 use crate::output;
 use pinlist::ReadAnswer;
+use refusal::ROW_TRAY;
 
-// Writes the width and the rows' fronts; the rest of both rows must still hold 7777.
-fn put_rows(top: &[u32; 512], bot: &[u32; 512], w: usize) {
+// Writes the width and the rows' fronts; the rest of both rows must still hold the mark.
+fn put_rows(top: &[u32; ROW_TRAY], bot: &[u32; ROW_TRAY], w: usize) {
     output::put_field(0);
     output::put_field(w as u64);
     output::put_word(b"\nTOP");
@@ -13,9 +16,12 @@ fn put_rows(top: &[u32; 512], bot: &[u32; 512], w: usize) {
     output::put_kept_word(output::is_kept(top, w) && output::is_kept(bot, w));
 }
 
-pub fn answer_read(text: &[u8]) -> bool {
-    let mut top = [7777u32; 512];
-    let mut bot = [7777u32; 512];
+// Any text makes a question.
+pub fn answer_read(text: &[u8]) -> bool
+    ensures { λ r. ⌜ r ≡ true ⌝ }
+{
+    let mut top = [output::MARK; ROW_TRAY];
+    let mut bot = [output::MARK; ROW_TRAY];
     output::put_word(b"READ");
     match pinlist::read(text, &mut top, &mut bot) {
         ReadAnswer::Width(w) => put_rows(&top, &bot, w),

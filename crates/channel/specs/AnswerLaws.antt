@@ -14,9 +14,10 @@ use Rattle.lists.specs.Tallies.{firstOf, first-none, none-first}
 use Rattle.refusal.specs.declared.Refusal.{Refusal}
 use Rattle.refusal.specs.declared.Refusal.the-variants.{TooWide, Uneven, HighNet, LonePin}
 use Rattle.refusal.specs.Refusals.{refuseAtFirst, _or-else_}
-use Rattle.refusal.specs.ChainLaws.{none-refuse-if, some-refuse-if, none-refuse-at-first, none-or-else-later, some-or-else, answered-none, answered-some}
+use Rattle.refusal.specs.ChainLaws.{none-refuse-if, some-refuse-if, none-refuse-at-first, none-or-else-later}
+use Rattle.refusal.specs.ChainLaws.{some-or-else, answered-none, answered-some}
 use Rattle.channel.specs.declared.RowsAnswer.the-variants as checking
-use Rattle.channel.specs.Channel.{Channel, positions, highestNet, widest, pinCount, rows}
+use Rattle.channel.specs.Channel.{Channel, positions, highestNet, widest, pinCount}
 use Rattle.channel.specs.Answers.{tooWide, uneven, highNet, lonePin, rowsRefusal, rowsAnswer}
 use Rattle.channel.specs.Rows.{firstHigh, tally, firstLone}
 use Rattle.channel.specs.RowLaws.{high, zeros, first-high-neither, lone-counted}
@@ -25,7 +26,8 @@ use Rattle.channel.specs.RowLaws.{high, zeros, first-high-neither, lone-
 refuse-none : (r : ℕ → Refusal) (f : ℕ → Bool) (n : ℕ) → firstOf f n ≡ 0 → refuseAtFirst r (keep f (upTo n)) ≡ none
 refuse-none r f n e = none-refuse-at-first r (keep f (upTo n)) (first-none f n (none-first f n e))
 
-refuse-first : (r : ℕ → Refusal) (f : ℕ → Bool) (n : ℕ) → (firstOf f n ≡ 0 → ⊥) → refuseAtFirst r (keep f (upTo n)) ≡ some (r (firstOf f n))
+refuse-first : (r : ℕ → Refusal) (f : ℕ → Bool) (n : ℕ) → (firstOf f n ≡ 0 → ⊥)
+    → refuseAtFirst r (keep f (upTo n)) ≡ some (r (firstOf f n))
 unfolding headOr refuseAtFirst
 refuse-first r f n = go (keep f (upTo n))
   where
@@ -56,13 +58,15 @@ module _ (ch : Channel) where
   unfolding rowsAnswer
   refused r e = sym (answered-some checking.Refused (rowsRefusal ch) checking.Accepted r e)
 
-  pub answer-wide : (widest < length (ch .top)) ⊎ (widest < length (ch .bot)) → checking.Refused (TooWide 513) ≡ rowsAnswer ch
+  pub answer-wide : (widest < length (ch .top)) ⊎ (widest < length (ch .bot))
+      → checking.Refused (TooWide 513) ≡ rowsAnswer ch
   unfolding rowsRefusal tooWide
   answer-wide h =
       let a = ltb widest (length (ch .top)) in
       let b = ltb widest (length (ch .bot)) in
       refused (TooWide 513) (some-or-else (tooWide ch) (uneven ch or-else highNet ch or-else lonePin ch) (TooWide 513)
-      (some-refuse-if (a || b) (TooWide 513) (⊎-elim (λ l. or-left a b (lt→ltb widest (length (ch .top)) l)) (λ l. or-right a b (lt→ltb widest (length (ch .bot)) l)) h)))
+      (some-refuse-if (a || b) (TooWide 513) (⊎-elim (λ l. or-left a b (lt→ltb widest (length (ch .top)) l))
+      (λ l. or-right a b (lt→ltb widest (length (ch .bot)) l)) h)))
 
   past-wide : Narrow → rowsRefusal ch ≡ (uneven ch or-else highNet ch or-else lonePin ch)
   unfolding rowsRefusal tooWide
@@ -70,16 +74,22 @@ module _ (ch : Channel) where
       let a = ltb widest (length (ch .top)) in
       let b = ltb widest (length (ch .bot)) in
       none-or-else-later (tooWide ch) (uneven ch or-else highNet ch or-else lonePin ch)
-      (none-refuse-if (a || b) (TooWide (suc widest)) (λ t. ⊎-elim (λ k. let l = ltb→lt widest (length (ch .top)) k in omega arith) (λ k. let l = ltb→lt widest (length (ch .bot)) k in omega arith) (or-cases a b t)))
+      (none-refuse-if (a || b) (TooWide (suc widest))
+      (λ t. ⊎-elim (λ k. let l = ltb→lt widest (length (ch .top)) k in omega arith)
+      (λ k. let l = ltb→lt widest (length (ch .bot)) k in omega arith) (or-cases a b t)))
 
-  pub answer-uneven : Narrow → (length (ch .top) ≡ length (ch .bot) → ⊥) ⊎ (length (ch .top) ≡ 0) → (p : ℕ) → p ≡ suc (min (length (ch .top)) (length (ch .bot))) → checking.Refused (Uneven p) ≡ rowsAnswer ch
+  pub answer-uneven : Narrow → (length (ch .top) ≡ length (ch .bot) → ⊥) ⊎ (length (ch .top) ≡ 0) → (p : ℕ)
+      → p ≡ suc (min (length (ch .top)) (length (ch .bot))) → checking.Refused (Uneven p) ≡ rowsAnswer ch
   unfolding uneven
   answer-uneven n h p e =
       let a = eqb (length (ch .top)) (length (ch .bot)) in
       let b = eqb (length (ch .top)) 0 in
       let q = Uneven (suc (min (length (ch .top)) (length (ch .bot)))) in
-      ap (λ (k : ℕ). checking.Refused (Uneven k)) e ∙ refused q (past-wide n ∙ some-or-else (uneven ch) (highNet ch or-else lonePin ch) q
-      (some-refuse-if (not a || b) q (⊎-elim (λ o. or-left (not a) b (not-passes a (λ t. o (eqb→eq (length (ch .top)) (length (ch .bot)) t)))) (λ z. or-right (not a) b (subst (λ (k : ℕ). T (eqb k 0)) (sym z) (eqb-refl 0))) h)))
+      ap (λ (k : ℕ). checking.Refused (Uneven k)) e ∙ refused q
+      (past-wide n ∙ some-or-else (uneven ch) (highNet ch or-else lonePin ch) q
+      (some-refuse-if (not a || b) q (⊎-elim (λ o. or-left (not a) b
+      (not-passes a (λ t. o (eqb→eq (length (ch .top)) (length (ch .bot)) t))))
+      (λ z. or-right (not a) b (subst (λ (k : ℕ). T (eqb k 0)) (sym z) (eqb-refl 0))) h)))
 
   past-uneven : Even → rowsRefusal ch ≡ (highNet ch or-else lonePin ch)
   unfolding uneven
@@ -87,19 +97,24 @@ module _ (ch : Channel) where
       let a = eqb (length (ch .top)) (length (ch .bot)) in
       let b = eqb (length (ch .top)) 0 in
       past-wide (s .narrow) ∙ none-or-else-later (uneven ch) (highNet ch or-else lonePin ch)
-      (none-refuse-if (not a || b) _ (λ t. ⊎-elim (λ k. not-fails a k (subst (λ (m : ℕ). T (eqb (length (ch .top)) m)) (s .same) (eqb-refl (length (ch .top))))) (λ k. s .filled (eqb→eq (length (ch .top)) 0 k)) (or-cases (not a) b t)))
+      (none-refuse-if (not a || b) _ (λ t. ⊎-elim (λ k.
+      not-fails a k (subst (λ (m : ℕ). T (eqb (length (ch .top)) m)) (s .same) (eqb-refl (length (ch .top)))))
+      (λ k. s .filled (eqb→eq (length (ch .top)) 0 k)) (or-cases (not a) b t)))
 
-  pub answer-high : Even → (p : ℕ) → firstHigh (positions ch) ≡ p → (p ≡ 0 → ⊥) → checking.Refused (HighNet p) ≡ rowsAnswer ch
+  pub answer-high : Even → (p : ℕ) → firstHigh (positions ch) ≡ p → (p ≡ 0 → ⊥)
+      → checking.Refused (HighNet p) ≡ rowsAnswer ch
   unfolding highNet firstHigh
   answer-high s p e h =
       refused (HighNet p) (past-uneven s ∙ some-or-else (highNet ch) (lonePin ch) (HighNet p)
-      (refuse-first HighNet (high (positions ch)) (length (positions ch)) (λ z. h (sym e ∙ z)) ∙ ap (λ (k : ℕ). some (HighNet k)) e))
+      (refuse-first HighNet (high (positions ch)) (length (positions ch)) (λ z. h (sym e ∙ z))
+      ∙ ap (λ (k : ℕ). some (HighNet k)) e))
 
   past-high : Low → rowsRefusal ch ≡ lonePin ch
   unfolding highNet firstHigh
   past-high l =
       past-uneven (l .even) ∙ none-or-else-later (highNet ch) (lonePin ch)
-      (refuse-none HighNet (high (positions ch)) (length (positions ch)) (first-high-neither (ch .top) (ch .bot) (l .top-low) (l .bot-low)))
+      (refuse-none HighNet (high (positions ch)) (length (positions ch))
+      (first-high-neither (ch .top) (ch .bot) (l .top-low) (l .bot-low)))
 
   -- p is the first net counted just once, where both rows are counted from nothing
   module _ (l : Low) (p : ℕ) (counted : p ≡ firstLone (tally (ch .bot) (tally (ch .top) zeros))) where
@@ -109,9 +124,11 @@ module _ (ch : Channel) where
     pub answer-lone : (p ≡ 0 → ⊥) → checking.Refused (LonePin p) ≡ rowsAnswer ch
     unfolding lonePin
     answer-lone h =
-        refused (LonePin p) (past-high l ∙ (refuse-first LonePin (λ n. eqb (pinCount ch n) 1) highestNet (λ z. h (first-lone ∙ z)) ∙ ap (λ (k : ℕ). some (LonePin k)) (sym first-lone)))
+        refused (LonePin p) (past-high l ∙ (refuse-first LonePin (λ n. eqb (pinCount ch n) 1) highestNet
+        (λ z. h (first-lone ∙ z)) ∙ ap (λ (k : ℕ). some (LonePin k)) (sym first-lone)))
 
     pub answer-accepted : p ≡ 0 → checking.Accepted ≡ rowsAnswer ch
     unfolding lonePin rowsAnswer
     answer-accepted z =
-        sym (answered-none checking.Refused (rowsRefusal ch) checking.Accepted (past-high l ∙ refuse-none LonePin (λ n. eqb (pinCount ch n) 1) highestNet (sym first-lone ∙ z)))
+        sym (answered-none checking.Refused (rowsRefusal ch) checking.Accepted
+        (past-high l ∙ refuse-none LonePin (λ n. eqb (pinCount ch n) 1) highestNet (sym first-lone ∙ z)))

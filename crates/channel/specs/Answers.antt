@@ -1,9 +1,9 @@
 -- 01, refusals 3 to 6 of rows, each with its place, and the answers of the operations on rows alone.
-use Prim.Native.Nat.{ℕ, suc, min, _+_, _≤_, _<_}
+use Prim.Native.Nat.{ℕ, suc, min, _≤_, _<_}
 use mathlib.Core.Path.{_≡_}
-use mathlib.Core.List.{List, [], _∷_}
-use mathlib.Core.Bool.{Bool, _||_, not}
-use mathlib.Core.Option.{Option, none}
+use mathlib.Core.List.{[], _∷_}
+use mathlib.Core.Bool.{_||_, not}
+use mathlib.Core.Option.{Option}
 use lib.ListN.{length}
 use lib.Dec.{ltb, eqb}
 use Rattle.lists.specs.Lists.{keep, upTo, at}
@@ -25,7 +25,8 @@ tooWide ch = refuseIf (ltb widest (length (ch .top)) || ltb widest (length (ch .
 -- 4: "rows differ or are empty; shorter length plus 1"
 unfoldable pub uneven : Channel → Option Refusal
 uneven ch =
-    refuseIf (not (eqb (length (ch .top)) (length (ch .bot))) || eqb (length (ch .top)) 0) (Uneven (suc (min (length (ch .top)) (length (ch .bot)))))
+    refuseIf (not (eqb (length (ch .top)) (length (ch .bot))) || eqb (length (ch .top)) 0)
+    (Uneven (suc (min (length (ch .top)) (length (ch .bot)))))
 
 -- 5: "a number over 511; the lowest pin position holding one"
 unfoldable pub highNet : Channel → Option Refusal

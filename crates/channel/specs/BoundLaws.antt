@@ -8,18 +8,19 @@ use Rattle.refusal.specs.Refusals.{answered}
 use Rattle.refusal.specs.ChainLaws.{answered-none, answered-some}
 use Rattle.channel.specs.declared.RowsAnswer.the-variants as checking
 use Rattle.channel.specs.declared.BoundsAnswer.the-variants as bounds
-use Rattle.channel.specs.Channel.{Channel, rows}
+use Rattle.channel.specs.Channel.{Channel}
 use Rattle.channel.specs.Density.{density}
 use Rattle.channel.specs.Constraints.{chain}
 use Rattle.channel.specs.Answers.{rowsRefusal, Escapes, rowsAnswer, boundsAnswer}
 use Rattle.channel.specs.EscapeLaws.{accepted-exactly}
 
-accepted→none : (q : Option Refusal) → answered checking.Refused q checking.Accepted ≡ checking.Accepted → q ≡ none
+pub accepted→none : (q : Option Refusal) → answered checking.Refused q checking.Accepted ≡ checking.Accepted → q ≡ none
 unfolding answered
 accepted→none none e = refl
 accepted→none (some r) e = absurd (let z : _≡_ {A = ℕ} 0 1 = cc in omega arith)
 
-pub refused→some : (q : Option Refusal) (r : Refusal) → answered checking.Refused q checking.Accepted ≡ checking.Refused r → q ≡ some r
+pub refused→some : (q : Option Refusal) (r : Refusal)
+    → answered checking.Refused q checking.Accepted ≡ checking.Refused r → q ≡ some r
 unfolding answered
 refused→some none r e = absurd (let z : _≡_ {A = ℕ} 0 1 = cc in omega arith)
 refused→some (some s) r e = cc
@@ -39,4 +40,6 @@ module _ (ch : Channel) where
 
   pub bounds-refused : (r : Refusal) → rowsAnswer ch ≡ checking.Refused r → boundsAnswer ch ≡ bounds.Refused r
   unfolding boundsAnswer rowsAnswer
-  bounds-refused r e = answered-some bounds.Refused (rowsRefusal ch) (bounds.Bounds (density ch) (chain ch)) r (refused→some (rowsRefusal ch) r e)
+  bounds-refused r e =
+      answered-some bounds.Refused (rowsRefusal ch) (bounds.Bounds (density ch) (chain ch)) r
+      (refused→some (rowsRefusal ch) r e)

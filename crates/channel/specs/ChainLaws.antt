@@ -1,9 +1,11 @@
--- The chain is the most nets on a path. Without a ring no path has more nets than the channel, so one net more of fuel counts them all; on a ring the count uses up its fuel.
+-- The chain is the most nets on a path. Without a ring no path has more nets than the channel, so one net more of fuel
+-- counts them all; on a ring the count uses up its fuel.
 use Prim.Native.Nat.{ℕ, zero, suc, _≤_, _<_}
 use native.Mathlib.Omega.{arith}
 use native.Mathlib.Decide.{decLt}
 use mathlib.Core.Path.{_≡_, refl, sym, _∙_, ap, subst}
-use mathlib.Core.List.{List, [], map, List·Memᴰ, List·Memᴰ·head, List·Memᴰ·tail, List·Memᴰ·cases-cons, List·Memᴰ·not-nil, Memᴰ·cast}
+use mathlib.Core.List.{List, [], map, List·Memᴰ, List·Memᴰ·head, List·Memᴰ·tail, List·Memᴰ·cases-cons}
+use mathlib.Core.List.{List·Memᴰ·not-nil, Memᴰ·cast}
 use mathlib.Core.Logic.{_⊎_, inl, inr, ⊎-elim}
 use lib.ListN.{length}
 use lib.Dec.{leb, leb→le, le→leb}
@@ -13,28 +15,40 @@ use Rattle.lists.specs.Ends.{head-member}
 use Rattle.lists.specs.Pigeonhole.{pigeonhole}
 use Rattle.lists.specs.Greatest.{greatest-map-upper, greatest-map-least, greatest-map-reached}
 use Rattle.channel.specs.Channel.{Channel, nets, spanning}
-use Rattle.channel.specs.Constraints.{Above, below, Path↓, alone, down, depth, chain, Step, netsOf, Descends, last, next, Ring, Tangled}
+use Rattle.channel.specs.Constraints.{Above, below, Path↓, alone, down, depth, chain, Step, netsOf, Descends}
+use Rattle.channel.specs.Constraints.{last, next, Ring, Tangled}
 use Rattle.channel.specs.Answers.{Escapes}
 use Rattle.channel.specs.Promise.{ChainPromise}
 use Rattle.channel.specs.SpanLaws.{lower-spans, upper-spans, spanning→, →nets}
-use Rattle.channel.specs.PathLaws.{above-greater-depth, below→above, path≤depth, path-nets, path-nets-length, path-nets-span, path-start-spans, path-distinct?}
+use Rattle.channel.specs.PathLaws.{above-greater-depth, below→above, path≤depth, path-nets, path-nets-length}
+use Rattle.channel.specs.PathLaws.{path-nets-span, path-start-spans, path-distinct?}
 
 -- without a ring the nets of a path are different, so they are no more than the nets
 pub path≤nets : {ch : Channel} → Escapes ch → (Tangled ch → ⊥) → {k a b : ℕ} → Path↓ ch k a b → k ≤ length (nets ch)
 path≤nets {ch} esc untangled p =
-    let fits = pigeonhole (path-nets p) (nets ch) (⊎-elim (λ d. d) (λ t. absurd (untangled t)) (path-distinct? p)) (λ n m. →nets ch n (spanning→ ch n (path-nets-span esc p m) .0)) in
+    let fits = pigeonhole (path-nets p) (nets ch) (⊎-elim (λ d. d) (λ t. absurd (untangled t)) (path-distinct? p))
+    (λ n m. →nets ch n (spanning→ ch n (path-nets-span esc p m) .0)) in
     let counted = path-nets-length p in
     omega arith
 
 -- every net of a ring is above a net of the ring
-descends-next : {Over : ℕ → ℕ → ℕ → Type 0} {end n : ℕ} {steps : List Step} → Descends Over end steps → List·Memᴰ n (netsOf steps) → (b c : ℕ) × Over n b c × ((b ≡ end) ⊎ List·Memᴰ b (netsOf steps))
+descends-next : {Over : ℕ → ℕ → ℕ → Type 0} {end n : ℕ} {steps : List Step} → Descends Over end steps
+    → List·Memᴰ n (netsOf steps) → (b c : ℕ) × Over n b c × ((b ≡ end) ⊎ List·Memᴰ b (netsOf steps))
 descends-next {Over} {end} (last {s = s} h) m =
-    ⊎-elim (λ e. (end, s .column, subst (λ k. Over k end (s .column)) (sym e) h, inl refl)) (λ t. absurd (List·Memᴰ·not-nil t)) (List·Memᴰ·cases-cons m)
+    ⊎-elim (λ e. (end, s .column, subst (λ k. Over k end (s .column)) (sym e) h, inl refl))
+    (λ t. absurd (List·Memᴰ·not-nil t)) (List·Memᴰ·cases-cons m)
 descends-next {Over} (next {s = s} {t = t} h d) m =
-    ⊎-elim (λ e. (t .net, s .column, subst (λ k. Over k (t .net) (s .column)) (sym e) h, inr (List·Memᴰ·tail (List·Memᴰ·head refl))))
-    (λ k. let r = descends-next d k in (r .0, r .1, r .2, ⊎-elim inl (λ i. inr (List·Memᴰ·tail i)) (r .3))) (List·Memᴰ·cases-cons m)
+    ⊎-elim (λ e. (
+      t .net,
+      s .column,
+      subst (λ k. Over k (t .net) (s .column)) (sym e) h,
+      inr (List·Memᴰ·tail (List·Memᴰ·head refl)),
+    ))
+    (λ k. let r = descends-next d k in (r .0, r .1, r .2, ⊎-elim inl (λ i. inr (List·Memᴰ·tail i)) (r .3)))
+    (List·Memᴰ·cases-cons m)
 
-descends-member : {Over : ℕ → ℕ → ℕ → Type 0} {end : ℕ} {steps : List Step} → Descends Over end steps → (n : ℕ) × List·Memᴰ n (netsOf steps)
+descends-member : {Over : ℕ → ℕ → ℕ → Type 0} {end : ℕ} {steps : List Step} → Descends Over end steps
+    → (n : ℕ) × List·Memᴰ n (netsOf steps)
 descends-member (last {s = s} h) = (s .net, List·Memᴰ·head refl)
 descends-member (next {s = s} h d) = (s .net, List·Memᴰ·head refl)
 
@@ -63,7 +77,9 @@ chain-counts ch h = rw (T→true (leb (deepest ch) (length (nets ch))) (le→leb
 
 pub chain-overruns : (ch : Channel) → length (nets ch) < deepest ch → chain ch ≡ 0
 unfolding chain
-chain-overruns ch h = rw (fails→false (leb (deepest ch) (length (nets ch))) (λ t. let l = leb→le (deepest ch) (length (nets ch)) t in omega arith)) refl
+chain-overruns ch h =
+    rw (fails→false (leb (deepest ch) (length (nets ch)))
+    (λ t. let l = leb→le (deepest ch) (length (nets ch)) t in omega arith)) refl
 
 no-span-chain : (ch : Channel) → spanning ch ≡ [] → chain ch ≡ 0
 unfolding greatest
@@ -73,12 +89,20 @@ no-span-chain ch e =
 
 module _ (ch : Channel) (esc : Escapes ch) where
   -- the depth of a net is reached by a path
-  pub depth-path : (fuel n : ℕ) → List·Memᴰ n (spanning ch) → 0 < depth fuel ch n → (z : ℕ) × Path↓ ch (depth fuel ch n) n z
+  pub depth-path : (fuel n : ℕ) → List·Memᴰ n (spanning ch) → 0 < depth fuel ch n
+      → (z : ℕ) × Path↓ ch (depth fuel ch n) n z
   unfolding depth
   depth-path zero n s h = absurd (omega arith)
-  depth-path (suc fuel) n s h = elim (decLt 0 (greatest (map (depth fuel ch) (below ch n)))) [ yes deeper ↦ further deeper (λ b. depth-path fuel b) | no h₀ ↦ (n, subst (λ (k : ℕ). Path↓ ch (suc k) n n) (omega arith) (alone s)) ]
+  depth-path (suc fuel) n s h =
+      elim (decLt 0 (greatest (map (depth fuel ch) (below ch n)))) [
+        | yes deeper ↦ further deeper (λ b. depth-path fuel b)
+        | no h₀ ↦
+            (n, subst (λ (k : ℕ). Path↓ ch (suc k) n n) (omega arith) (alone s))
+      ]
     where
-      further : 0 < greatest (map (depth fuel ch) (below ch n)) → ((b : ℕ) → List·Memᴰ b (spanning ch) → 0 < depth fuel ch b → (z : ℕ) × Path↓ ch (depth fuel ch b) b z) → (z : ℕ) × Path↓ ch (suc (greatest (map (depth fuel ch) (below ch n)))) n z
+      further : 0 < greatest (map (depth fuel ch) (below ch n))
+          → ((b : ℕ) → List·Memᴰ b (spanning ch) → 0 < depth fuel ch b → (z : ℕ) × Path↓ ch (depth fuel ch b) b z)
+          → (z : ℕ) × Path↓ ch (suc (greatest (map (depth fuel ch) (below ch n)))) n z
       further deeper rest =
           let r = greatest-map-reached (depth fuel ch) (below ch n) deeper in
           let step = below→above ch n (r .0) (r .1) in
@@ -97,10 +121,13 @@ module _ (ch : Channel) (esc : Escapes ch) where
 
   module _ (untangled : Tangled ch → ⊥) where
     chain-deepest : chain ch ≡ deepest ch
-    chain-deepest = chain-counts ch (greatest-map-least (depth (suc (length (nets ch))) ch) (spanning ch) (length (nets ch)) fits)
+    chain-deepest =
+        chain-counts ch (greatest-map-least (depth (suc (length (nets ch))) ch) (spanning ch) (length (nets ch)) fits)
       where
         fits : (n : ℕ) → List·Memᴰ n (spanning ch) → depth (suc (length (nets ch))) ch n ≤ length (nets ch)
-        fits n s = elim (decLt 0 (depth (suc (length (nets ch))) ch n)) [ yes h ↦ path≤nets esc untangled (depth-path (suc (length (nets ch))) n s h .1) | no h ↦ omega arith ]
+        fits n s =
+            elim (decLt 0 (depth (suc (length (nets ch))) ch n))
+            [ yes h ↦ path≤nets esc untangled (depth-path (suc (length (nets ch))) n s h .1) | no h ↦ omega arith ]
 
     chain-reached : 0 < chain ch → (a b : ℕ) × Path↓ ch (chain ch) a b
     chain-reached h =
@@ -119,4 +146,10 @@ module _ (ch : Channel) (esc : Escapes ch) where
         omega arith
 
 pub chain-promise : (ch : Channel) → Escapes ch → ChainPromise ch
-chain-promise ch esc = record { tangled = tangled-chain ch esc; no-spans = no-span-chain ch; reached = chain-reached ch esc; most = chain-most ch esc }
+chain-promise ch esc =
+    record {
+      tangled = tangled-chain ch esc;
+      no-spans = no-span-chain ch;
+      reached = chain-reached ch esc;
+      most = chain-most ch esc;
+    }

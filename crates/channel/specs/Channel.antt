@@ -1,6 +1,6 @@
 -- 01, "Pin list" and "Spans and constraints": a channel's rows, its nets, their pins and spans.
 use Prim.Native.Nat.{ℕ}
-use mathlib.Core.List.{List, [], _∷_, _++_, map}
+use mathlib.Core.List.{List, _++_}
 use mathlib.Core.Bool.{Bool, _&&_, _||_}
 use lib.ListN.{length}
 use lib.Dec.{ltb, eqb}
@@ -34,9 +34,13 @@ widest = 512
 unfoldable pub isNet : Channel → ℕ → Bool
 isNet ch n = ltb 0 n
 
+-- column c holds a pin of net n
+abbrev pub hasPin : Channel → ℕ → ℕ → Bool
+hasPin ch n c = eqb (at (ch .top) c) n || eqb (at (ch .bot) c) n
+
 -- the columns that hold a pin of a net, rising
 unfoldable pub pinColumns : Channel → ℕ → List ℕ
-pinColumns ch n = keep (λ c. eqb (at (ch .top) c) n || eqb (at (ch .bot) c) n) (upTo (width ch))
+pinColumns ch n = keep (hasPin ch n) (upTo (width ch))
 
 -- "Any other net spans its first to its last pin column"
 unfoldable pub firstColumn : Channel → ℕ → ℕ
@@ -49,9 +53,13 @@ lastColumn ch n = lastOr 0 (pinColumns ch n)
 unfoldable pub pinCount : Channel → ℕ → ℕ
 pinCount ch n = length (keep (eqb n) (positions ch))
 
+-- the number is a net's of this channel: it has a pin
+unfoldable pub holdsNet : Channel → ℕ → Bool
+holdsNet ch n = isNet ch n && ltb 0 (pinCount ch n)
+
 -- the nets, in rising number
 unfoldable pub nets : Channel → List ℕ
-nets ch = keep (λ n. isNet ch n && ltb 0 (pinCount ch n)) (upTo highestNet)
+nets ch = keep (holdsNet ch) (upTo highestNet)
 
 -- "A net whose pins all stand in one column is straight and has no span and no trunk"
 unfoldable pub hasSpan : Channel → ℕ → Bool

@@ -1,4 +1,5 @@
--- 01, "Spans and constraints": which net is above which (the vertical constraints), paths down, the chain, and rings (its cycles).
+-- 01, "Spans and constraints": which net is above which (the vertical constraints), paths down, the chain, and rings
+-- (its cycles).
 use Prim.Native.Nat.{ℕ, zero, suc}
 use mathlib.Core.Path.{_≡_}
 use mathlib.Core.List.{List, [], _∷_, map, List·Memᴰ}
@@ -27,7 +28,9 @@ pub record Drop : Type 0 where
 
 -- the steps down from net n, lowest column first
 unfoldable pub drops : Channel → ℕ → List Drop
-drops ch n = map (λ c. record { column = c; lower = at (ch .bot) c }) (keep (λ c. above ch n (at (ch .bot) c) c) (upTo (width ch)))
+drops ch n =
+    map (λ c. record { column = c; lower = at (ch .bot) c })
+    (keep (λ c. above ch n (at (ch .bot) c) c) (upTo (width ch)))
 
 -- the nets directly below n
 abbrev pub below : Channel → ℕ → List ℕ
@@ -58,10 +61,12 @@ pub record Step : Type 0 where
 abbrev pub netsOf : List Step → List ℕ
 netsOf steps = map (λ s. s .net) steps
 
--- each net of the steps stands over the next in its column, and the last over `end`; `Over` is the relation, such as `Above ch`
+-- each net of the steps stands over the next in its column, and the last over `end`; `Over` is the relation, such as
+-- `Above ch`
 pub data Descends (Over : ℕ → ℕ → ℕ → Type 0) (end : ℕ) : List Step → Type 0 where
   last : {s : Step} → Over (s .net) end (s .column) → Descends Over end (s ∷ [])
-  next : {s t : Step} {rest : List Step} → Over (s .net) (t .net) (s .column) → Descends Over end (t ∷ rest) → Descends Over end (s ∷ (t ∷ rest))
+  next : {s t : Step} {rest : List Step} → Over (s .net) (t .net) (s .column) → Descends Over end (t ∷ rest)
+      → Descends Over end (s ∷ (t ∷ rest))
 
 -- "A ring is a list of different nets, each above the next, and the last above the first"
 pub record Ring (ch : Channel) (steps : List Step) : Type 0 where

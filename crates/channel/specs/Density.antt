@@ -1,6 +1,6 @@
 -- 01, "Spans and constraints": local density and density, counted over a list of spans.
 use Prim.Native.Nat.{ℕ}
-use mathlib.Core.List.{List, [], _∷_, map}
+use mathlib.Core.List.{List, map}
 use lib.ListN.{length}
 use Rattle.lists.specs.Lists.{keep, upTo, greatest, within}
 use Rattle.channel.specs.Channel.{Channel, width, firstColumn, lastColumn, spanning}

@@ -3,7 +3,6 @@ use Prim.Native.Nat.{ℕ, _≤_, _<_}
 use native.Mathlib.Omega.{arith}
 use mathlib.Core.Path.{_≡_, sym, _∙_}
 use mathlib.Core.List.{List, List·Memᴰ}
-use mathlib.Core.Bool.{Bool}
 use lib.ListN.{length}
 use Rattle.lists.specs.Lists.{keep, upTo, within, Distinct}
 use Rattle.lists.specs.Tests.{within→, →within}
@@ -33,18 +32,25 @@ over→ ch c n m =
 
 pub →over : (ch : Channel) (c n : ℕ) → Over ch c n → List·Memᴰ n (netsOver ch c)
 unfolding netsOver
-→over ch c n o = kept (λ e. within (firstColumn ch e) c (lastColumn ch e)) (o .spans) (→within (firstColumn ch n) c (lastColumn ch n) (o .begins) (o .ends))
+→over ch c n o =
+    kept (λ e. within (firstColumn ch e) c (lastColumn ch e)) (o .spans)
+    (→within (firstColumn ch n) c (lastColumn ch n) (o .begins) (o .ends))
 
 pub over-distinct : (ch : Channel) (c : ℕ) → Distinct (netsOver ch c)
 unfolding netsOver
-over-distinct ch c = rising-distinct (netsOver ch c) (keep-rising (λ n. within (firstColumn ch n) c (lastColumn ch n)) (spanning ch) (spanning-rising ch))
+over-distinct ch c =
+    rising-distinct (netsOver ch c) (keep-rising (λ n. within (firstColumn ch n) c (lastColumn ch n)) (spanning ch)
+    (spanning-rising ch))
 
 -- "Local density at a column counts the spans holding it"
 pub local-counts : (ch : Channel) (c : ℕ) → spansOver (spansOf ch) c ≡ length (netsOver ch c)
 unfolding spansOver spansOf netsOver
-local-counts ch c = length-keep-map (λ (s : Span). within (s .first) c (s .last)) (λ n. record { first = firstColumn ch n; last = lastColumn ch n }) (spanning ch)
+local-counts ch c =
+    length-keep-map (λ (s : Span). within (s .first) c (s .last))
+    (λ n. record { first = firstColumn ch n; last = lastColumn ch n }) (spanning ch)
 
-pub density-reached : (ch : Channel) → 0 < density ch → (c : ℕ) × (1 ≤ c) × (c ≤ width ch) × (length (netsOver ch c) ≡ density ch)
+pub density-reached : (ch : Channel) → 0 < density ch
+    → (c : ℕ) × (1 ≤ c) × (c ≤ width ch) × (length (netsOver ch c) ≡ density ch)
 unfolding density
 density-reached ch h =
     let r = greatest-map-reached (spansOver (spansOf ch)) (upTo (width ch)) h in

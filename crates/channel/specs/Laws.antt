@@ -1,22 +1,22 @@
--- What the definitions of a channel say of its nets: where their pins stand, which of them have spans, and that a net above or below another has one.
+-- What the definitions of a channel say of its nets: where their pins stand, which of them have spans, and that a net
+-- above or below another has one.
 use Prim.Native.Nat.{ℕ, zero, suc, _+_, _-_, _≤_, _<_}
 use native.Mathlib.Omega.{arith}
 use native.Mathlib.Decide.{decLt}
 use mathlib.Core.Path.{_≡_, refl, sym, _∙_, ap, subst}
-use mathlib.Core.List.{List, [], _∷_, _++_, map, List·Memᴰ, List·Memᴰ·head, List·Memᴰ·tail, Memᴰ·map, Memᴰ·of-map, Memᴰ·cast}
+use mathlib.Core.List.{List, [], _∷_, map, List·Memᴰ, List·Memᴰ·head, List·Memᴰ·tail, Memᴰ·map, Memᴰ·of-map, Memᴰ·cast}
 use mathlib.Core.Logic.{_⊎_, inl, inr, ⊎-elim}
-use mathlib.Core.Bool.{Bool, true, false, cond, _&&_, _||_, not}
+use mathlib.Core.Bool.{_&&_, _||_, not}
 use lib.ListN.{length, getD, length-append, List·getD-append}
 use lib.Seq.{getD-append-add}
-use lib.Dec.{T, ltb, eqb, ltb→lt, lt→ltb, eqb→eq, eqb-refl}
+use lib.Dec.{T, eqb, ltb→lt, lt→ltb, eqb→eq, eqb-refl}
 use Rattle.lists.specs.Lists.{keep, upTo, headOr, lastOr, at}
-use Rattle.lists.specs.Tests.{and-left, and-right, and-both, or-cases, or-left, or-right, not-passes, not-fails, equal?}
+use Rattle.lists.specs.Tests.{eq→T, and-left, and-right, and-both, or-cases, or-left, or-right, not-passes, not-fails}
 use Rattle.lists.specs.Members.{keep-member, kept, upTo-member, in-upTo}
-use Rattle.lists.specs.Ends.{head-member, last-member, Rising, from-rising, keep-rising, head-least, last-greatest, at-suc, at-inside, member-at, getD-member, Elsewhere, elsewhere}
-use Rattle.channel.specs.Channel.{Channel, width, positions, highestNet, isNet, pinColumns, firstColumn, lastColumn, pinCount, nets, hasSpan, spanning}
-use Rattle.channel.specs.Density.{Span, spansOf}
-use Rattle.channel.specs.Constraints.{Above, above, Drop, drops, below}
-use Rattle.channel.specs.Answers.{Escapes}
+use Rattle.lists.specs.Ends.{head-member, last-member, Rising, from-rising, keep-rising, head-least, last-greatest}
+use Rattle.lists.specs.Ends.{at-suc, at-inside, member-at, getD-member}
+use Rattle.channel.specs.Channel.{Channel, width, positions, isNet, pinColumns, firstColumn, lastColumn, pinCount}
+use Rattle.channel.specs.Constraints.{Above, above, Drop, drops}
 
 -- `isNet` says that the number is not 0
 pub net-positive : (ch : Channel) (n : ℕ) → T (isNet ch n) → 0 < n
@@ -31,18 +31,23 @@ positive-net ch n h = lt→ltb 0 n h
 pub above→ : (ch : Channel) (a b c : ℕ) → T (above ch a b c) → Above ch a b c
 unfolding above
 above→ ch a b c h =
-    let rest₁ = and-right (eqb (at (ch .top) c) a) (eqb (at (ch .bot) c) b && (isNet ch a && (isNet ch b && not (eqb a b)))) h in
+    let rest₁ = and-right (eqb (at (ch .top) c) a)
+    (eqb (at (ch .bot) c) b && (isNet ch a && (isNet ch b && not (eqb a b)))) h in
     let rest₂ = and-right (eqb (at (ch .bot) c) b) (isNet ch a && (isNet ch b && not (eqb a b))) rest₁ in
     let rest₃ = and-right (isNet ch a) (isNet ch b && not (eqb a b)) rest₂ in
-    record { onTop = eqb→eq (at (ch .top) c) a (and-left (eqb (at (ch .top) c) a) (eqb (at (ch .bot) c) b && (isNet ch a && (isNet ch b && not (eqb a b)))) h); onBot = eqb→eq (at (ch .bot) c) b (and-left (eqb (at (ch .bot) c) b) (isNet ch a && (isNet ch b && not (eqb a b))) rest₁); upper = and-left (isNet ch a) (isNet ch b && not (eqb a b)) rest₂; lower = and-left (isNet ch b) (not (eqb a b)) rest₃; different = λ e. not-fails (eqb a b) (and-right (isNet ch b) (not (eqb a b)) rest₃) (subst (λ (k : ℕ). T (eqb a k)) e (eqb-refl a)) }
-
-eq→T : (a b : ℕ) → a ≡ b → T (eqb a b)
-eq→T a b e = subst (λ (k : ℕ). T (eqb a k)) e (eqb-refl a)
+    record {
+      onTop = eqb→eq (at (ch .top) c) a (and-left (eqb (at (ch .top) c) a) _ h);
+      onBot = eqb→eq (at (ch .bot) c) b (and-left (eqb (at (ch .bot) c) b) _ rest₁);
+      upper = and-left (isNet ch a) _ rest₂;
+      lower = and-left (isNet ch b) _ rest₃;
+      different = λ e. not-fails (eqb a b) (and-right (isNet ch b) (not (eqb a b)) rest₃) (eq→T a b e);
+    }
 
 pub →above : (ch : Channel) (a b c : ℕ) → Above ch a b c → T (above ch a b c)
 unfolding above
 →above ch a b c h =
-    and-both (eqb (at (ch .top) c) a) (eqb (at (ch .bot) c) b && (isNet ch a && (isNet ch b && not (eqb a b)))) (eq→T _ _ (h .onTop))
+    and-both (eqb (at (ch .top) c) a) (eqb (at (ch .bot) c) b && (isNet ch a && (isNet ch b && not (eqb a b))))
+    (eq→T _ _ (h .onTop))
     (and-both (eqb (at (ch .bot) c) b) (isNet ch a && (isNet ch b && not (eqb a b))) (eq→T _ _ (h .onBot))
     (and-both (isNet ch a) (isNet ch b && not (eqb a b)) (h .upper)
     (and-both (isNet ch b) (not (eqb a b)) (h .lower) (not-passes (eqb a b) (λ t. h .different (eqb→eq a b t))))))
@@ -51,7 +56,8 @@ unfolding above
 pub drop→above : (ch : Channel) (n : ℕ) (d : Drop) → List·Memᴰ d (drops ch n) → Above ch n (d .lower) (d .column)
 unfolding drops
 drop→above ch n d m =
-    let r = Memᴰ·of-map (λ c. record { column = c; lower = at (ch .bot) c }) (keep (λ c. above ch n (at (ch .bot) c) c) (upTo (width ch))) m in
+    let r = Memᴰ·of-map (λ c. record { column = c; lower = at (ch .bot) c })
+    (keep (λ c. above ch n (at (ch .bot) c) c) (upTo (width ch))) m in
     let k = keep-member (λ c. above ch n (at (ch .bot) c) c) (upTo (width ch)) (r .1) in
     subst (λ (e : Drop). Above ch n (e .lower) (e .column)) (r .2) (above→ ch n (at (ch .bot) (r .0)) (r .0) (k .1))
 
@@ -59,9 +65,13 @@ pub above→drop : (ch : Channel) (a b c : ℕ) → Above ch a b c → List·Mem
 unfolding drops
 above→drop ch a b c h =
     let inside = at-inside (ch .top) c (subst (λ (k : ℕ). 0 < k) (sym (h .onTop)) (net-positive ch a (h .upper))) in
-    let passes : T (above ch a (at (ch .bot) c) c) = subst (λ (k : ℕ). T (above ch a k c)) (sym (h .onBot)) (→above ch a b c h) in
-    subst (λ (k : ℕ). List·Memᴰ {A = Drop} (record { column = c; lower = k }) (map (λ e. record { column = e; lower = at (ch .bot) e }) (keep (λ e. above ch a (at (ch .bot) e) e) (upTo (width ch))))) (h .onBot)
-    (Memᴰ·map (λ e. record { column = e; lower = at (ch .bot) e }) (kept (λ e. above ch a (at (ch .bot) e) e) (in-upTo (width ch) c (inside .0) (inside .1)) passes))
+    let passes : T (above ch a (at (ch .bot) c) c) =
+    subst (λ (k : ℕ). T (above ch a k c)) (sym (h .onBot)) (→above ch a b c h) in
+    subst (λ (k : ℕ). List·Memᴰ {A = Drop} (record { column = c; lower = k })
+    (map (λ e. record { column = e; lower = at (ch .bot) e })
+    (keep (λ e. above ch a (at (ch .bot) e) e) (upTo (width ch))))) (h .onBot)
+    (Memᴰ·map (λ e. record { column = e; lower = at (ch .bot) e })
+    (kept (λ e. above ch a (at (ch .bot) e) e) (in-upTo (width ch) c (inside .0) (inside .1)) passes))
 
 -- column c holds a pin of net n
 pub record PinIn (ch : Channel) (n c : ℕ) : Type 0 where
@@ -74,18 +84,25 @@ unfolding pinColumns
 pin-column ch n c m =
     let k = keep-member (λ e. eqb (at (ch .top) e) n || eqb (at (ch .bot) e) n) (upTo (width ch)) m in
     let r = upTo-member (width ch) (k .0) in
-    record { first = r .0; last = r .1; pin = ⊎-elim (λ t. inl (eqb→eq (at (ch .top) c) n t)) (λ t. inr (eqb→eq (at (ch .bot) c) n t)) (or-cases (eqb (at (ch .top) c) n) (eqb (at (ch .bot) c) n) (k .1)) }
+    record {
+      first = r .0;
+      last = r .1;
+      pin = ⊎-elim (λ t. inl (eqb→eq (at (ch .top) c) n t))
+          (λ t. inr (eqb→eq (at (ch .bot) c) n t)) (or-cases (eqb (at (ch .top) c) n) (eqb (at (ch .bot) c) n) (k .1));
+    }
 
 pub in-pin-columns : (ch : Channel) (n c : ℕ) → PinIn ch n c → List·Memᴰ c (pinColumns ch n)
 unfolding pinColumns
 in-pin-columns ch n c p =
     kept (λ e. eqb (at (ch .top) e) n || eqb (at (ch .bot) e) n) (in-upTo (width ch) c (p .first) (p .last))
-    (⊎-elim (λ e. or-left (eqb (at (ch .top) c) n) (eqb (at (ch .bot) c) n) (eq→T _ _ e)) (λ e. or-right (eqb (at (ch .top) c) n) (eqb (at (ch .bot) c) n) (eq→T _ _ e)) (p .pin))
+    (⊎-elim (λ e. or-left (eqb (at (ch .top) c) n) (eqb (at (ch .bot) c) n) (eq→T _ _ e))
+    (λ e. or-right (eqb (at (ch .top) c) n) (eqb (at (ch .bot) c) n) (eq→T _ _ e)) (p .pin))
 
 -- the pin columns of a net lie between its first and its last, which are pin columns themselves
 pub columns-rising : (ch : Channel) (n : ℕ) → Rising (pinColumns ch n)
 unfolding pinColumns
-columns-rising ch n = keep-rising (λ c. eqb (at (ch .top) c) n || eqb (at (ch .bot) c) n) (upTo (width ch)) (from-rising 1 (width ch))
+columns-rising ch n =
+    keep-rising (λ c. eqb (at (ch .top) c) n || eqb (at (ch .bot) c) n) (upTo (width ch)) (from-rising 1 (width ch))
 
 pub pin-after-first : (ch : Channel) (n c : ℕ) → PinIn ch n c → firstColumn ch n ≤ c
 unfolding firstColumn
@@ -112,13 +129,20 @@ pub top-holds : (ch : Channel) (n c : ℕ) → 1 ≤ c → c ≤ width ch → at
 top-holds ch n zero h₁ h₂ e = absurd (omega arith)
 top-holds ch n (suc i) h₁ h₂ e =
     let same : suc i - 1 ≡ i = omega arith in
-    rw same (record { inRow = rw (length-append (ch .top) (ch .bot)) (omega arith); holds = List·getD-append (ch .top) (ch .bot) 0 i (omega arith) ∙ (sym (at-suc (ch .top) i) ∙ e) })
+    rw same (record {
+      inRow = rw (length-append (ch .top) (ch .bot)) (omega arith);
+      holds = List·getD-append (ch .top) (ch .bot) 0 i (omega arith) ∙ (sym (at-suc (ch .top) i) ∙ e);
+    })
 
-pub bot-holds : (ch : Channel) (n c : ℕ) → length (ch .bot) ≡ width ch → 1 ≤ c → c ≤ width ch → at (ch .bot) c ≡ n → PinAmong ch n (width ch + (c - 1))
+pub bot-holds : (ch : Channel) (n c : ℕ) → length (ch .bot) ≡ width ch → 1 ≤ c → c ≤ width ch → at (ch .bot) c ≡ n
+    → PinAmong ch n (width ch + (c - 1))
 bot-holds ch n zero even h₁ h₂ e = absurd (omega arith)
 bot-holds ch n (suc i) even h₁ h₂ e =
     let same : suc i - 1 ≡ i = omega arith in
-    rw same (record { inRow = rw (length-append (ch .top) (ch .bot)) (omega arith); holds = getD-append-add (ch .top) (ch .bot) i 0 ∙ (sym (at-suc (ch .bot) i) ∙ e) })
+    rw same (record {
+      inRow = rw (length-append (ch .top) (ch .bot)) (omega arith);
+      holds = getD-append-add (ch .top) (ch .bot) i 0 ∙ (sym (at-suc (ch .bot) i) ∙ e);
+    })
 
 -- a pin position is a column of TOP or of BOT
 pub data Standing (ch : Channel) (n i : ℕ) : Type 0 where
@@ -132,12 +156,16 @@ standing ch n i even p = elim (decLt i (width ch)) [ yes h ↦ left h | no h ↦
     inside = subst (λ (k : ℕ). i < k) (length-append (ch .top) (ch .bot)) (p .inRow)
 
     left : i < width ch → Standing ch n i
-    left h = on-top (suc i) (omega arith) h (omega arith) (at-suc (ch .top) i ∙ (sym (List·getD-append (ch .top) (ch .bot) 0 i h) ∙ p .holds))
+    left h =
+        on-top (suc i) (omega arith) h (omega arith) (at-suc (ch .top) i
+        ∙ (sym (List·getD-append (ch .top) (ch .bot) 0 i h) ∙ p .holds))
 
     right : width ch ≤ i → Standing ch n i
     right h =
         let apart : width ch + (i - width ch) ≡ i = omega arith in
-        on-bot (suc (i - width ch)) (omega arith) (omega (arith, inside)) (omega arith) (at-suc (ch .bot) (i - width ch) ∙ (sym (getD-append-add (ch .top) (ch .bot) (i - width ch) 0) ∙ (ap (λ (k : ℕ). getD (positions ch) k 0) apart ∙ p .holds)))
+        on-bot (suc (i - width ch)) (omega arith) (omega (arith, inside)) (omega arith)
+        (at-suc (ch .bot) (i - width ch) ∙ (sym (getD-append-add (ch .top) (ch .bot) (i - width ch) 0)
+        ∙ (ap (λ (k : ℕ). getD (positions ch) k 0) apart ∙ p .holds)))
 
 standing→in : (ch : Channel) (n i : ℕ) → Standing ch n i → (c : ℕ) × PinIn ch n c
 standing→in ch n i (on-top c h₁ h₂ q e) = (c, record { first = h₁; last = h₂; pin = inl e })
@@ -150,19 +178,24 @@ counted→pin ch n even h = go (keep (eqb n) (positions ch)) refl
     go : (ys : List ℕ) → keep (eqb n) (positions ch) ≡ ys → (c : ℕ) × PinIn ch n c
     go [] q = absurd (let z : 0 < 0 = subst (λ (l : List ℕ). 0 < length l) q h in omega arith)
     go (y ∷ ys) q =
-        let m : List·Memᴰ y (keep (eqb n) (positions ch)) = subst (λ (l : List ℕ). List·Memᴰ y l) (sym q) (List·Memᴰ·head refl) in
+        let m : List·Memᴰ y (keep (eqb n) (positions ch)) =
+        subst (λ (l : List ℕ). List·Memᴰ y l) (sym q) (List·Memᴰ·head refl) in
         let found = keep-member (eqb n) (positions ch) m in
         let r = member-at (found .0) in
-        standing→in ch n (r .0) (standing ch n (r .0) even (record { inRow = r .1; holds = r .2 ∙ sym (eqb→eq n y (found .1)) }))
+        standing→in ch n (r .0) (standing ch n (r .0) even
+        (record { inRow = r .1; holds = r .2 ∙ sym (eqb→eq n y (found .1)) }))
 
 pin-among : (ch : Channel) (n c : ℕ) → length (ch .bot) ≡ width ch → PinIn ch n c → (i : ℕ) × PinAmong ch n i
-pin-among ch n c even p = ⊎-elim (λ e. (c - 1, top-holds ch n c (p .first) (p .last) e)) (λ e. (width ch + (c - 1), bot-holds ch n c even (p .first) (p .last) e)) (p .pin)
+pin-among ch n c even p =
+    ⊎-elim (λ e. (c - 1, top-holds ch n c (p .first) (p .last) e))
+    (λ e. (width ch + (c - 1), bot-holds ch n c even (p .first) (p .last) e)) (p .pin)
 
 pub pin→counted : (ch : Channel) (n c : ℕ) → length (ch .bot) ≡ width ch → PinIn ch n c → 0 < pinCount ch n
 unfolding pinCount
 pin→counted ch n c even p =
     let r = pin-among ch n c even p in
-    let m : List·Memᴰ n (positions ch) = Memᴰ·cast (sym (r .1 .holds)) (getD-member (positions ch) (r .0) (r .1 .inRow)) in
+    let m : List·Memᴰ n (positions ch) = Memᴰ·cast (sym (r .1 .holds))
+    (getD-member (positions ch) (r .0) (r .1 .inRow)) in
     member-length (kept (eqb n) m (eqb-refl n))
   where
     member-length : {x : ℕ} {xs : List ℕ} → List·Memᴰ x xs → 0 < length xs

@@ -9,6 +9,7 @@ pub mod Laws
 pub mod EscapeLaws
 pub mod Promise
 pub mod SpanLaws
+pub mod CountLaws
 pub mod PathLaws
 pub mod ChainLaws
 pub mod DensityLaws
@@ -20,3 +21,4 @@ pub mod DepthLaws
 pub mod StartLaws
 pub mod SweepLaws
 pub mod NoteLaws
+pub mod ToldLaws

@@ -1,4 +1,5 @@
--- The row check by its parts: the first high number of a row and of two rows put end to end, and what the counts of two rows tell of a channel's nets.
+-- The row check by its parts: the first high number of a row and of two rows put end to end, and what the counts of two
+-- rows tell of a channel's nets.
 use Prim.Native.Nat.{ℕ, zero, suc, _+_, _-_, _≤_, _<_}
 use native.Mathlib.Omega.{arith}
 use native.Mathlib.Decide.{decLe}
@@ -7,7 +8,8 @@ use mathlib.Core.Path.{_≡_, refl, sym, _∙_, ap, subst}
 use mathlib.Core.List.{List, [], _∷_, _++_}
 use mathlib.Core.Logic.{⊎-elim}
 use mathlib.Core.Bool.{Bool}
-use lib.ListN.{length, getD, set, drop, replicate, drop-of-length-le, length-append, length-set, length-replicate, getD-replicate}
+use lib.ListN.{length, getD, set, drop, replicate, drop-of-length-le, length-append, length-set, length-replicate}
+use lib.ListN.{getD-replicate}
 use lib.Seq.{drop-cons, getD-set-same, getD-set-other}
 use lib.Dec.{T, ltb, eqb, ltb→lt, lt→ltb, eqb→eq, eqb-refl}
 use Rattle.lists.specs.Lists.{at, keep, upTo, headOr}
@@ -33,14 +35,23 @@ at-high : (row : List ℕ) (i : ℕ) → T (high row (suc i)) → 511 < getD row
 at-high row i t = let h = ltb→lt highestNet (at row (suc i)) t in let e = at-suc row i in omega arith
 
 -- the scan of a row from its front stops at the first high number, or finds none
-pub first-high-at : (row : List ℕ) (i : ℕ) → i < length row → 511 < getD row i 0 → ((k : ℕ) → k < i → getD row k 0 ≤ 511) → i + 1 ≡ firstHigh row
+pub first-high-at : (row : List ℕ) (i : ℕ) → i < length row → 511 < getD row i 0
+    → ((k : ℕ) → k < i → getD row k 0 ≤ 511) → i + 1 ≡ firstHigh row
 unfolding firstHigh
 first-high-at row i inside here before =
-    sym (first-is (high row) (length row) (i + 1) (record { holds = record { low = omega arith; high = omega arith; passes = rw add-one (high-at row i here) }; lowest = lowest }))
+    sym (first-is (high row) (length row) (i + 1) (record {
+      holds = record { low = omega arith; high = omega arith; passes = rw add-one (high-at row i here) };
+      lowest = lowest;
+    }))
   where
     lowest : (q : ℕ) → Passing (high row) 1 (length row) q → i + 1 ≤ q
     lowest zero p = let l = p .low in absurd (omega arith)
-    lowest (suc k) p = elim (decLe (i + 1) (suc k)) [ yes h ↦ h | no h ↦ absurd (let b = before k (omega arith) in let o = at-high row k (p .passes) in omega arith) ]
+    lowest (suc k) p =
+        elim (decLe (i + 1) (suc k)) [
+          | yes h ↦ h
+          | no h ↦
+              absurd (let b = before k (omega arith) in let o = at-high row k (p .passes) in omega arith)
+        ]
 
 pub no-first-high : (row : List ℕ) → ((k : ℕ) → k < length row → getD row k 0 ≤ 511) → 0 ≡ firstHigh row
 unfolding firstHigh headOr
@@ -48,18 +59,26 @@ no-first-high row low = sym (ap (headOr 0) (first-none (high row) (length row) n
   where
     none : NonePasses (high row) 1 (length row)
     none zero p = let l = p .low in absurd (omega arith)
-    none (suc k) p = let u = p .high in let b = low k (omega arith) in let o = at-high row k (p .passes) in absurd (omega arith)
+    none (suc k) p =
+        let u = p .high in let b = low k (omega arith) in let o = at-high row k (p .passes) in absurd (omega arith)
 
 -- and where it says that there is none, there is none
 pub none-high : (row : List ℕ) → firstHigh row ≡ 0 → (k : ℕ) → k < length row → getD row k 0 ≤ 511
 unfolding firstHigh
-none-high row e k inside = elim (decLe (getD row k 0) 511) [ yes h ↦ h | no h ↦ absurd (none-first (high row) (length row) e (suc k) (record { low = omega arith; high = omega arith; passes = high-at row k (omega arith) })) ]
+none-high row e k inside =
+    elim (decLe (getD row k 0) 511) [
+      | yes h ↦ h
+      | no h ↦
+          absurd (none-first (high row) (length row) e (suc k)
+          (record { low = omega arith; high = omega arith; passes = high-at row k (omega arith) }))
+    ]
 
 -- the first high number stands within the row
 pub first-high-most : (row : List ℕ) → firstHigh row ≤ length row
 unfolding firstHigh
 first-high-most row =
-    ⊎-elim (λ e. omega arith) (λ some. let h = is-first (high row) (length row) some .holds in let u = h .high in omega arith)
+    ⊎-elim (λ e. omega arith) (λ some. let h = is-first (high row) (length row) some .holds in let u = h .high in
+    omega arith)
     (equal? (firstOf (high row) (length row)) 0)
 
 -- the test of `firstLone`: net n is counted just once
@@ -67,21 +86,37 @@ abbrev lone : List ℕ → ℕ → Bool
 lone counts n = eqb (getD counts n 0) 1
 
 -- the scan of the counts from net 1 on stops at the first net counted just once, or finds none
-pub first-lone-at : (counts : List ℕ) (n : ℕ) → 1 ≤ n → n < 512 → getD counts n 0 ≡ 1 → ((k : ℕ) → k < n → 1 ≤ k → getD counts k 0 ≡ 1 → ⊥) → n ≡ firstLone counts
+pub first-lone-at : (counts : List ℕ) (n : ℕ) → 1 ≤ n → n < 512 → getD counts n 0 ≡ 1
+    → ((k : ℕ) → k < n → 1 ≤ k → getD counts k 0 ≡ 1 → ⊥) → n ≡ firstLone counts
 unfolding firstLone
 first-lone-at counts n low inside here before =
-    sym (first-is (lone counts) highestNet n (record { holds = record { low = low; high = omega arith; passes = subst (λ (k : ℕ). T (eqb k 1)) (sym here) (eqb-refl 1) }; lowest = lowest }))
+    sym (first-is (lone counts) highestNet n (record {
+      holds = record {
+        low = low;
+        high = omega arith;
+        passes = subst (λ (k : ℕ). T (eqb k 1)) (sym here) (eqb-refl 1);
+      };
+      lowest = lowest;
+    }))
   where
     lowest : (q : ℕ) → Passing (lone counts) 1 highestNet q → n ≤ q
-    lowest q p = elim (decLe n q) [ yes h ↦ h | no h ↦ absurd (before q (omega arith) (p .low) (eqb→eq (getD counts q 0) 1 (p .passes))) ]
+    lowest q p =
+        elim (decLe n q) [
+          | yes h ↦ h
+          | no h ↦ absurd (before q (omega arith) (p .low)
+              (eqb→eq (getD counts q 0) 1 (p .passes)))
+        ]
 
 pub no-first-lone : (counts : List ℕ) → ((k : ℕ) → k < 512 → 1 ≤ k → getD counts k 0 ≡ 1 → ⊥) → 0 ≡ firstLone counts
 unfolding firstLone headOr
 no-first-lone counts none =
-    sym (ap (headOr 0) (first-none (lone counts) highestNet (λ k p. let u = p .high in none k (omega arith) (p .low) (eqb→eq (getD counts k 0) 1 (p .passes)))))
+    sym (ap (headOr 0) (first-none (lone counts) highestNet
+    (λ k p. let u = p .high in none k (omega arith) (p .low) (eqb→eq (getD counts k 0) 1 (p .passes)))))
 
 -- a turn of the count takes the next number of the row, and where none is left the count is done
-pub tally-step : (row counts : List ℕ) (i : ℕ) → i < length row → tally (drop (i + 1) row) (set counts (getD row i 0) (getD counts (getD row i 0) 0 + 1)) ≡ tally (drop i row) counts
+pub tally-step : (row counts : List ℕ) (i : ℕ) → i < length row
+    → tally (drop (i + 1) row) (set counts (getD row i 0) (getD counts (getD row i 0) 0 + 1)) ≡ tally
+    (drop i row) counts
 unfolding tally
 tally-step row counts i inside = rw (add-one i, drop-cons row i 0)
 
@@ -94,7 +129,8 @@ abbrev times : ℕ → List ℕ → ℕ
 times n row = length (keep (eqb n) row)
 
 -- the store of one turn counts its number one more time, and no other
-count-one : (counts : List ℕ) (m n : ℕ) → m < length counts → getD (set counts m (getD counts m 0 + 1)) n 0 ≡ getD counts n 0 + times n (m ∷ [])
+count-one : (counts : List ℕ) (m n : ℕ) → m < length counts
+    → getD (set counts m (getD counts m 0 + 1)) n 0 ≡ getD counts n 0 + times n (m ∷ [])
 unfolding keep
 count-one counts m n inside = ⊎-elim same other (equal? n m)
   where
@@ -102,19 +138,24 @@ count-one counts m n inside = ⊎-elim same other (equal? n m)
     same e = rw (e, T→true (eqb m m) (eqb-refl m)) (getD-set-same counts m (getD counts m 0 + 1) 0 inside)
 
     other : (n ≡ m → ⊥) → getD (set counts m (getD counts m 0 + 1)) n 0 ≡ getD counts n 0 + times n (m ∷ [])
-    other apart = rw (fails→false (eqb n m) (λ t. apart (eqb→eq n m t))) (getD-set-other counts m n (getD counts m 0 + 1) 0 apart ∙ omega arith)
+    other apart =
+        rw (fails→false (eqb n m) (λ t. apart (eqb→eq n m t)))
+        (getD-set-other counts m n (getD counts m 0 + 1) 0 apart ∙ omega arith)
 
 tally-length : (row counts : List ℕ) → length (tally row counts) ≡ length counts
 unfolding tally
 tally-length [] counts = refl
-tally-length (m ∷ ms) counts = tally-length ms (set counts m (getD counts m 0 + 1)) ∙ length-set counts m (getD counts m 0 + 1)
+tally-length (m ∷ ms) counts =
+    tally-length ms (set counts m (getD counts m 0 + 1)) ∙ length-set counts m (getD counts m 0 + 1)
 
 -- counting a row raises each count by how often its net stands in the row
-tally-times : (row counts : List ℕ) (n : ℕ) → ((k : ℕ) → k < length row → getD row k 0 < length counts) → getD (tally row counts) n 0 ≡ getD counts n 0 + times n row
+tally-times : (row counts : List ℕ) (n : ℕ) → ((k : ℕ) → k < length row → getD row k 0 < length counts)
+    → getD (tally row counts) n 0 ≡ getD counts n 0 + times n row
 unfolding tally keep
 tally-times [] counts n low = omega arith
 tally-times (m ∷ ms) counts n low =
-    let rest = tally-times ms (set counts m (getD counts m 0 + 1)) n (λ k h. rw length-set (low (suc k) (omega arith))) in
+    let rest = tally-times ms (set counts m (getD counts m 0 + 1)) n
+    (λ k h. rw length-set (low (suc k) (omega arith))) in
     let first = count-one counts m n (low 0 (omega arith)) in
     let both = length-keep-append (eqb n) (m ∷ []) ms in
     omega arith
@@ -135,7 +176,8 @@ pub zeros-within : (n : ℕ) → n < 512 → getD zeros n 0 ≤ 512
 zeros-within n inside = let z = zeros-at n inside in omega arith
 
 -- the numbers of a row without high ones each have a count
-has-count : (row counts : List ℕ) → firstHigh row ≡ 0 → length counts ≡ 512 → (k : ℕ) → k < length row → getD row k 0 < length counts
+has-count : (row counts : List ℕ) → firstHigh row ≡ 0 → length counts ≡ 512 → (k : ℕ) → k < length row
+    → getD row k 0 < length counts
 has-count row counts none full k inside = let h = none-high row none k inside in omega arith
 
 -- counted from nothing, a net has no more pins in a row than the row has columns
@@ -161,20 +203,50 @@ first-high-left xs ys some =
     let p = firstOf (high xs) (length xs) in
     let h = l .holds in
     let u = h .high in
-    first-is (high (xs ++ ys)) (length (xs ++ ys)) p (record { holds = record { low = h .low; high = omega (arith, length-append xs ys); passes = subst T (sym (high-left xs ys p (omega arith))) (h .passes) }; lowest = λ q k. elim (decLe q (length xs)) [ yes i ↦ l .lowest q (record { low = k .low; high = omega arith; passes = subst T (high-left xs ys q i) (k .passes) }) | no i ↦ omega arith ] })
+    first-is (high (xs ++ ys)) (length (xs ++ ys)) p
+    (record {
+      holds = record {
+        low = h .low;
+        high = omega (arith, length-append xs ys);
+        passes = subst T (sym (high-left xs ys p (omega arith))) (h .passes);
+      };
+      lowest = λ q k. elim (decLe q (length xs)) [
+        | yes i ↦
+            l .lowest q (record {
+              low = k .low;
+              high = omega arith;
+              passes = subst T (high-left xs ys q i) (k .passes);
+            })
+        | no i ↦ omega arith
+      ];
+    })
 
 -- a place that holds a high number is beyond the first row, if that has none
 module _ (xs ys : List ℕ) (none : firstHigh xs ≡ 0) where
-  beyond : (q : ℕ) → Passing (high (xs ++ ys)) 1 (length (xs ++ ys)) q → (r : ℕ) × (q ≡ length xs + r) × Passing (high ys) 1 (length ys) r
+  beyond : (q : ℕ) → Passing (high (xs ++ ys)) 1 (length (xs ++ ys)) q
+      → (r : ℕ) × (q ≡ length xs + r) × Passing (high ys) 1 (length ys) r
   unfolding firstHigh
-  beyond q k = elim (decLe q (length xs)) [ yes i ↦ absurd (none-first (high xs) (length xs) none q (record { low = k .low; high = omega arith; passes = subst T (high-left xs ys q i) (k .passes) })) | no i ↦ right (omega arith) ]
+  beyond q k =
+      elim (decLe q (length xs)) [
+        | yes i ↦ absurd (none-first (high xs) (length xs) none q
+            (record { low = k .low; high = omega arith; passes = subst T (high-left xs ys q i) (k .passes) }))
+        | no i ↦
+            right (omega arith)
+      ]
     where
       right : length xs < q → (r : ℕ) × (q ≡ length xs + r) × Passing (high ys) 1 (length ys) r
       right i =
           let r = q - length xs in
           let e : q ≡ length xs + r = omega arith in
-          let u = k .high in
-          (r, e, record { low = omega arith; high = omega (arith, length-append xs ys); passes = subst T (ap (high (xs ++ ys)) e ∙ high-right xs ys r (omega arith)) (k .passes) })
+          let u = k .high in (
+            r,
+            e,
+            record {
+              low = omega arith;
+              high = omega (arith, length-append xs ys);
+              passes = subst T (ap (high (xs ++ ys)) e ∙ high-right xs ys r (omega arith)) (k .passes);
+            },
+          )
 
   pub first-high-right : (firstHigh ys ≡ 0 → ⊥) → firstHigh (xs ++ ys) ≡ length xs + firstHigh ys
   unfolding firstHigh
@@ -184,15 +256,27 @@ module _ (xs ys : List ℕ) (none : firstHigh xs ≡ 0) where
       let h = l .holds in
       let d = h .low in
       let u = h .high in
-      first-is (high (xs ++ ys)) (length (xs ++ ys)) (length xs + p) (record { holds = record { low = omega arith; high = omega (arith, length-append xs ys); passes = subst T (sym (high-right xs ys p d)) (h .passes) }; lowest = λ q k. let b = beyond q k in let m = l .lowest (b .0) (b .2) in let e = b .1 in omega arith })
+      first-is (high (xs ++ ys)) (length (xs ++ ys)) (length xs + p)
+      (record {
+        holds = record {
+          low = omega arith;
+          high = omega (arith, length-append xs ys);
+          passes = subst T (sym (high-right xs ys p d)) (h .passes);
+        };
+        lowest = λ q k. let b = beyond q k in
+            let m = l .lowest (b .0) (b .2) in let e = b .1 in omega arith;
+      })
 
   pub first-high-neither : firstHigh ys ≡ 0 → firstHigh (xs ++ ys) ≡ 0
   unfolding firstHigh headOr
-  first-high-neither low = ap (headOr 0) (first-none (high (xs ++ ys)) (length (xs ++ ys)) (λ q k. let b = beyond q k in none-first (high ys) (length ys) low (b .0) (b .2)))
+  first-high-neither low =
+      ap (headOr 0) (first-none (high (xs ++ ys)) (length (xs ++ ys))
+      (λ q k. let b = beyond q k in none-first (high ys) (length ys) low (b .0) (b .2)))
 
 module _ (ch : Channel) where
   -- counted one after the other from nothing, the two rows give each net's pins
-  pins-counted : firstHigh (ch .top) ≡ 0 → firstHigh (ch .bot) ≡ 0 → (n : ℕ) → n < 512 → getD (tally (ch .bot) (tally (ch .top) zeros)) n 0 ≡ pinCount ch n
+  pins-counted : firstHigh (ch .top) ≡ 0 → firstHigh (ch .bot) ≡ 0 → (n : ℕ) → n < 512
+      → getD (tally (ch .bot) (tally (ch .top) zeros)) n 0 ≡ pinCount ch n
   unfolding pinCount
   pins-counted top-low bot-low n inside =
       let once = tally (ch .top) zeros in
@@ -204,8 +288,11 @@ module _ (ch : Channel) where
       omega arith
 
   -- so the first net counted just once is the first with just one pin
-  pub lone-counted : firstHigh (ch .top) ≡ 0 → firstHigh (ch .bot) ≡ 0 → firstLone (tally (ch .bot) (tally (ch .top) zeros)) ≡ firstOf (λ n. eqb (pinCount ch n) 1) highestNet
+  pub lone-counted : firstHigh (ch .top) ≡ 0 → firstHigh (ch .bot) ≡ 0
+      → firstLone (tally (ch .bot) (tally (ch .top) zeros)) ≡ firstOf (λ n. eqb (pinCount ch n) 1) highestNet
   unfolding firstLone
   lone-counted top-low bot-low =
       let counts = tally (ch .bot) (tally (ch .top) zeros) in
-      ap (headOr 0) (keep-same (lone counts) (λ n. eqb (pinCount ch n) 1) (upTo highestNet) (λ n m. let r = upTo-member highestNet m in ap (λ (k : ℕ). eqb k 1) (pins-counted top-low bot-low n (omega arith))))
+      ap (headOr 0) (keep-same (lone counts) (λ n. eqb (pinCount ch n) 1) (upTo highestNet)
+      (λ n m. let r = upTo-member highestNet m in ap (λ (k : ℕ). eqb k 1)
+      (pins-counted top-low bot-low n (omega arith))))

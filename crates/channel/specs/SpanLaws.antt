@@ -1,56 +1,77 @@
--- Which nets have spans. No net of a channel that escapes the refusals has just one pin, so a net that shares a column with another has a pin in another column.
-use Prim.Native.Nat.{ℕ, zero, suc, _+_, _-_, _≤_, _<_}
+-- Which nets have spans. No net of a channel that escapes the refusals has just one pin, so a net that shares a column
+-- with another has a pin in another column.
+use Prim.Native.Nat.{ℕ, _+_, _-_, _≤_, _<_}
 use native.Mathlib.Omega.{arith}
 use native.Mathlib.Decide.{decLt}
 use mathlib.Core.Path.{_≡_, refl, sym, _∙_, ap, subst}
-use mathlib.Core.List.{List, [], _∷_, _++_, map, List·Memᴰ, Memᴰ·of-map}
+use mathlib.Core.List.{List, [], _∷_, map, List·Memᴰ, Memᴰ·of-map}
 use mathlib.Core.Logic.{_⊎_, inl, inr, ⊎-elim}
-use mathlib.Core.Bool.{Bool, _&&_}
-use lib.ListN.{length, getD}
 use lib.Dec.{T, ltb, ltb→lt, lt→ltb}
-use Rattle.lists.specs.Lists.{keep, upTo, at}
+use Rattle.lists.specs.Lists.{upTo, at}
 use Rattle.lists.specs.Tests.{and-left, and-right, and-both, equal?}
 use Rattle.lists.specs.Members.{keep-member, kept, upTo-member, in-upTo}
-use Rattle.lists.specs.Ends.{Elsewhere, elsewhere, at-inside, Rising, from-rising, keep-rising}
-use Rattle.channel.specs.Channel.{Channel, width, positions, highestNet, isNet, pinColumns, firstColumn, lastColumn, pinCount, nets, hasSpan, spanning}
+use Rattle.lists.specs.Ends.{elsewhere, at-inside, Rising, from-rising, keep-rising}
+use Rattle.grid.specs.declared.Column.{Column}
+use Rattle.grid.specs.Pieces.{column}
+use Rattle.channel.specs.Channel.{Channel, width, positions, highestNet, isNet, firstColumn}
+use Rattle.channel.specs.Channel.{lastColumn, pinCount, holdsNet, nets, hasSpan, spanning}
 use Rattle.channel.specs.Density.{Span, spansOf}
 use Rattle.channel.specs.Constraints.{Above}
 use Rattle.channel.specs.Answers.{Escapes}
-use Rattle.channel.specs.Laws.{net-positive, positive-net, PinIn, PinAmong, Standing, on-top, on-bot, standing, top-holds, bot-holds, counted→pin, pin→counted, pin-after-first, pin-before-last, pin-in-first, pin-in-last}
+use Rattle.channel.specs.Laws.{net-positive, positive-net, PinIn, PinAmong, Standing, on-top, on-bot, standing}
+use Rattle.channel.specs.Laws.{top-holds, bot-holds, pin→counted, pin-after-first, pin-before-last}
 
--- a net has a number of 1 to 511 and a pin
+-- a net has a number of 1 to 511 that is routed, and a pin
 pub record IsNet (ch : Channel) (n : ℕ) : Type 0 where
+  pub isNet : T (isNet ch n)
   pub positive : 0 < n
   pub low : n ≤ highestNet
   pub counted : 0 < pinCount ch n
 
+-- `holdsNet` says so
+pub holds→ : (ch : Channel) (n : ℕ) → T (holdsNet ch n) → T (isNet ch n) × (0 < pinCount ch n)
+unfolding holdsNet
+holds→ ch n t =
+    let counted = ltb 0 (pinCount ch n) in
+    (and-left (isNet ch n) counted t, ltb→lt 0 (pinCount ch n) (and-right (isNet ch n) counted t))
+
+pub →holds : (ch : Channel) (n : ℕ) → T (isNet ch n) → 0 < pinCount ch n → T (holdsNet ch n)
+unfolding holdsNet
+→holds ch n t h = and-both (isNet ch n) (ltb 0 (pinCount ch n)) t (lt→ltb 0 (pinCount ch n) h)
+
 pub nets→ : (ch : Channel) (n : ℕ) → List·Memᴰ n (nets ch) → IsNet ch n
 unfolding nets
 nets→ ch n m =
-    let k = keep-member (λ e. isNet ch e && ltb 0 (pinCount ch e)) (upTo highestNet) m in
+    let k = keep-member (holdsNet ch) (upTo highestNet) m in
     let r = upTo-member highestNet (k .0) in
-    record { positive = r .0; low = r .1; counted = ltb→lt 0 (pinCount ch n) (and-right (isNet ch n) (ltb 0 (pinCount ch n)) (k .1)) }
+    let h = holds→ ch n (k .1) in
+    record { isNet = h .0; positive = r .0; low = r .1; counted = h .1 }
 
 pub →nets : (ch : Channel) (n : ℕ) → IsNet ch n → List·Memᴰ n (nets ch)
 unfolding nets
-→nets ch n h =
-    kept (λ e. isNet ch e && ltb 0 (pinCount ch e)) (in-upTo highestNet n (h .positive) (h .low))
-    (and-both (isNet ch n) (ltb 0 (pinCount ch n)) (positive-net ch n (h .positive)) (lt→ltb 0 (pinCount ch n) (h .counted)))
+→nets ch n h = kept (holdsNet ch) (in-upTo highestNet n (h .positive) (h .low)) (→holds ch n (h .isNet) (h .counted))
 
 pub nets-rising : (ch : Channel) → Rising (nets ch)
 unfolding nets
-nets-rising ch = keep-rising (λ e. isNet ch e && ltb 0 (pinCount ch e)) (upTo highestNet) (from-rising 1 highestNet)
+nets-rising ch = keep-rising (holdsNet ch) (upTo highestNet) (from-rising 1 highestNet)
 
--- the nets with spans are those whose first column is before their last
-pub spanning→ : (ch : Channel) (n : ℕ) → List·Memᴰ n (spanning ch) → IsNet ch n × (firstColumn ch n < lastColumn ch n)
-unfolding spanning hasSpan
+-- the first column of a span is before its last
+pub span-strict : (ch : Channel) (n : ℕ) → T (hasSpan ch n) → firstColumn ch n < lastColumn ch n
+unfolding hasSpan
+span-strict ch n t = ltb→lt (firstColumn ch n) (lastColumn ch n) t
+
+-- the nets with spans
+pub spanning→ : (ch : Channel) (n : ℕ) → List·Memᴰ n (spanning ch)
+    → IsNet ch n × T (hasSpan ch n) × (firstColumn ch n ≤ lastColumn ch n)
+unfolding spanning
 spanning→ ch n m =
-    let k = keep-member (λ e. ltb (firstColumn ch e) (lastColumn ch e)) (nets ch) m in
-    (nets→ ch n (k .0), ltb→lt (firstColumn ch n) (lastColumn ch n) (k .1))
+    let k = keep-member (hasSpan ch) (nets ch) m in
+    let s = span-strict ch n (k .1) in
+    (nets→ ch n (k .0), k .1, omega arith)
 
 pub →spanning : (ch : Channel) (n : ℕ) → IsNet ch n → firstColumn ch n < lastColumn ch n → List·Memᴰ n (spanning ch)
 unfolding spanning hasSpan
-→spanning ch n h s = kept (λ e. ltb (firstColumn ch e) (lastColumn ch e)) (→nets ch n h) (lt→ltb (firstColumn ch n) (lastColumn ch n) s)
+→spanning ch n h s = kept (hasSpan ch) (→nets ch n h) (lt→ltb (firstColumn ch n) (lastColumn ch n) s)
 
 pub spanning-rising : (ch : Channel) → Rising (spanning ch)
 unfolding spanning
@@ -61,13 +82,24 @@ pub spans-rise : (ch : Channel) (s : Span) → List·Memᴰ s (spansOf ch) → s
 unfolding spansOf
 spans-rise ch s m =
     let r = Memᴰ·of-map (λ n. record { first = firstColumn ch n; last = lastColumn ch n }) (spanning ch) m in
-    subst (λ (e : Span). e .first < e .last) (r .2) (spanning→ ch (r .0) (r .1) .1)
+    subst (λ (e : Span). e .first < e .last) (r .2) (span-strict ch (r .0) (spanning→ ch (r .0) (r .1) .1))
+
+-- the numbers of columns that were made of numbers
+pub plain-typed : (xs : List ℕ) → map (λ (c : Column). c .0) (map column xs) ≡ xs
+plain-typed [] = refl
+plain-typed (x ∷ xs) = ap (λ (l : List ℕ). x ∷ l) (plain-typed xs)
 
 module _ (ch : Channel) (esc : Escapes ch) where
   -- a net that has a pin is a net
   pub pin→net : (n c : ℕ) → 0 < n → PinIn ch n c → IsNet ch n
   pin→net n c h p =
-      record { positive = h; low = ⊎-elim (λ e. let b = esc .low c .0 in omega arith) (λ e. let b = esc .low c .1 in omega arith) (p .pin); counted = pin→counted ch n c (esc .even) p }
+      record {
+        isNet = positive-net ch n h;
+        positive = h;
+        low =
+            ⊎-elim (λ e. let b = esc .low c .0 in omega arith) (λ e. let b = esc .low c .1 in omega arith) (p .pin);
+        counted = pin→counted ch n c (esc .even) p;
+      }
 
   -- the net has a pin in another column
   abbrev pub InAnother : ℕ → ℕ → Type 0
@@ -85,14 +117,19 @@ module _ (ch : Channel) (esc : Escapes ch) where
     where
       go : (j : ℕ) → (j ≡ c - 1 → ⊥) → Standing ch n j → InAnother n c ⊎ (at (ch .bot) c ≡ n)
       go j o (on-top d k₁ k₂ q t) = inl (d, record { first = k₁; last = k₂; pin = inl t }, omega arith)
-      go j o (on-bot d k₁ k₂ q t) = ⊎-elim (λ s. inr (subst (λ (k : ℕ). at (ch .bot) k ≡ n) s t)) (λ s. inl (d, record { first = k₁; last = k₂; pin = inr t }, s)) (equal? d c)
+      go j o (on-bot d k₁ k₂ q t) =
+          ⊎-elim (λ s. inr (subst (λ (k : ℕ). at (ch .bot) k ≡ n) s t))
+          (λ s. inl (d, record { first = k₁; last = k₂; pin = inr t }, s)) (equal? d c)
 
   pub beside-bot : (n c : ℕ) → 0 < n → 1 ≤ c → c ≤ width ch → at (ch .bot) c ≡ n → InAnother n c ⊎ (at (ch .top) c ≡ n)
-  beside-bot n c h h₁ h₂ e = let r = second n (width ch + (c - 1)) h (bot-holds ch n c (esc .even) h₁ h₂ e) in go (r .0) (r .1) (r .2)
+  beside-bot n c h h₁ h₂ e =
+      let r = second n (width ch + (c - 1)) h (bot-holds ch n c (esc .even) h₁ h₂ e) in go (r .0) (r .1) (r .2)
     where
       go : (j : ℕ) → (j ≡ width ch + (c - 1) → ⊥) → Standing ch n j → InAnother n c ⊎ (at (ch .top) c ≡ n)
       go j o (on-bot d k₁ k₂ q t) = inl (d, record { first = k₁; last = k₂; pin = inr t }, omega arith)
-      go j o (on-top d k₁ k₂ q t) = ⊎-elim (λ s. inr (subst (λ (k : ℕ). at (ch .top) k ≡ n) s t)) (λ s. inl (d, record { first = k₁; last = k₂; pin = inl t }, s)) (equal? d c)
+      go j o (on-top d k₁ k₂ q t) =
+          ⊎-elim (λ s. inr (subst (λ (k : ℕ). at (ch .top) k ≡ n) s t))
+          (λ s. inl (d, record { first = k₁; last = k₂; pin = inl t }, s)) (equal? d c)
 
   another→span : (n c : ℕ) → 0 < n → PinIn ch n c → InAnother n c → List·Memᴰ n (spanning ch)
   another→span n c h p a =
@@ -105,7 +142,8 @@ module _ (ch : Channel) (esc : Escapes ch) where
 
   -- the column in which one net is above another
   pub above-column : {a b c : ℕ} → Above ch a b c → (1 ≤ c) × (c ≤ width ch)
-  above-column {a} {b} {c} h = at-inside (ch .top) c (subst (λ (k : ℕ). 0 < k) (sym (h .onTop)) (net-positive ch a (h .upper)))
+  above-column {a} {b} {c} h =
+      at-inside (ch .top) c (subst (λ (k : ℕ). 0 < k) (sym (h .onTop)) (net-positive ch a (h .upper)))
 
   pub upper-pin : {a b c : ℕ} → Above ch a b c → PinIn ch a c
   upper-pin h = let r = above-column h in record { first = r .0; last = r .1; pin = inl (h .onTop) }
@@ -117,12 +155,14 @@ module _ (ch : Channel) (esc : Escapes ch) where
   pub upper-another : {a b c : ℕ} → Above ch a b c → InAnother a c
   upper-another {a} {b} {c} h =
       let r = above-column h in
-      ⊎-elim (λ k. k) (λ e. absurd (h .different (sym e ∙ h .onBot))) (beside-top a c (net-positive ch a (h .upper)) (r .0) (r .1) (h .onTop))
+      ⊎-elim (λ k. k) (λ e. absurd (h .different (sym e ∙ h .onBot)))
+      (beside-top a c (net-positive ch a (h .upper)) (r .0) (r .1) (h .onTop))
 
   pub lower-another : {a b c : ℕ} → Above ch a b c → InAnother b c
   lower-another {a} {b} {c} h =
       let r = above-column h in
-      ⊎-elim (λ k. k) (λ e. absurd (h .different (sym (h .onTop) ∙ e))) (beside-bot b c (net-positive ch b (h .lower)) (r .0) (r .1) (h .onBot))
+      ⊎-elim (λ k. k) (λ e. absurd (h .different (sym (h .onTop) ∙ e)))
+      (beside-bot b c (net-positive ch b (h .lower)) (r .0) (r .1) (h .onBot))
 
   pub upper-spans : {a b c : ℕ} → Above ch a b c → List·Memᴰ a (spanning ch)
   upper-spans {a} {b} {c} h = another→span a c (net-positive ch a (h .upper)) (upper-pin h) (upper-another h)
@@ -131,11 +171,13 @@ module _ (ch : Channel) (esc : Escapes ch) where
   lower-spans {a} {b} {c} h = another→span b c (net-positive ch b (h .lower)) (lower-pin h) (lower-another h)
 
   -- a net that is straight has both pins of its one column
-  pub straight-both : (n c : ℕ) → 0 < n → PinIn ch n c → (firstColumn ch n < lastColumn ch n → ⊥) → (c ≡ firstColumn ch n) × (at (ch .top) c ≡ n) × (at (ch .bot) c ≡ n)
+  pub straight-both : (n c : ℕ) → 0 < n → PinIn ch n c → (firstColumn ch n < lastColumn ch n → ⊥)
+      → (c ≡ firstColumn ch n) × (at (ch .top) c ≡ n) × (at (ch .bot) c ≡ n)
   straight-both n c h p s =
       let f = pin-after-first ch n c p in
       let l = pin-before-last ch n c p in
-      let alone : InAnother n c → ⊥ = λ a. s (spanning→ ch n (another→span n c h p a) .1) in
-      let here : c ≡ firstColumn ch n = let z : lastColumn ch n ≤ firstColumn ch n = elim (decLt (firstColumn ch n) (lastColumn ch n)) [ yes k ↦ absurd (s k) | no k ↦ omega arith ] in omega arith in
+      let alone : InAnother n c → ⊥ = λ a. s (span-strict ch n (spanning→ ch n (another→span n c h p a) .1)) in
+      let here : c ≡ firstColumn ch n = let z : lastColumn ch n ≤ firstColumn ch n =
+      elim (decLt (firstColumn ch n) (lastColumn ch n)) [ yes k ↦ absurd (s k) | no k ↦ omega arith ] in omega arith in
       ⊎-elim (λ e. (here, e, ⊎-elim (λ a. absurd (alone a)) (λ b. b) (beside-top n c h (p .first) (p .last) e)))
       (λ e. (here, ⊎-elim (λ a. absurd (alone a)) (λ b. b) (beside-bot n c h (p .first) (p .last) e), e)) (p .pin)

@@ -1,8 +1,12 @@
--- The columns and depths of all net numbers, as the code keeps them in arrays: number n stands at place n, counted from 0.
+-- The columns and depths of all net numbers, as the code keeps them in arrays: number n stands at place n, counted
+-- from 0.
 use Prim.Native.Nat.{ℕ}
-use mathlib.Core.List.{List, [], _∷_, map}
+use mathlib.Core.Path.{_≡_}
+use mathlib.Core.List.{List, map}
 use lib.Dec.{eqb}
 use Rattle.lists.specs.Lists.{keep, from}
+use Rattle.grid.specs.Pieces.{column}
+use Rattle.channel.specs.declared.spans.Spans.{Spans}
 use Rattle.channel.specs.Channel.{Channel, firstColumn, lastColumn, spanning}
 use Rattle.channel.specs.Constraints.{depth}
 
@@ -15,6 +19,11 @@ firsts ch = each512 (firstColumn ch)
 
 abbrev pub lasts : Channel → List ℕ
 lasts ch = each512 (lastColumn ch)
+
+-- the first and the last column of each net number, by its place
+pub record SpansFound (ch : Channel) (s : Spans) : Type 0 where
+  pub first : s .first ≡ map column (firsts ch)
+  pub last : s .last ≡ map column (lasts ch)
 
 abbrev pub depths : ℕ → Channel → List ℕ
 depths fuel ch = each512 (depth fuel ch)

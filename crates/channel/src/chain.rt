@@ -9,14 +9,17 @@ ghost use Rattle.channel.specs.Spans.{each512, firsts, lasts};
 ghost use Rattle.channel.specs.Depths.{filledTo, deeperOver, deepestTo};
 use crate::BoundsAnswer;
 use crate::RowsAnswer;
+use crate::spans::plain_columns;
+use grid::NET_SLOTS;
+use grid::NETS;
 
 // How many nets there are: numbers from 1 on that have a pin.
-fn count_nets(first: &[u32; 512]) -> u32
+fn count_nets(first: &[u32; NET_SLOTS]) -> u32
     ensures { λ r. ⌜ r ≡ filledTo (now (first .entry)) highestNet ⌝ }
 {
     let mut count: u32 = 0;
     let mut n: usize = 0;
-    while n < 511 {
+    while n < NETS {
         n += 1;
         if first[n] != 0 {
             count += 1;
@@ -26,12 +29,14 @@ fn count_nets(first: &[u32; 512]) -> u32
 }
 
 // The most nets on a path down from each number, counted one net further than `old` has them.
-fn deeper(top: &[u32], bot: &[u32], old: &[u32; 512]) -> [u32; 512]
+fn deeper(top: &[u32], bot: &[u32], old: &[u32; NET_SLOTS]) -> [u32; NET_SLOTS]
     requires { ⌜ Escapes (rows (now top) (now bot)) × ((n : ℕ) → getD (now old) n 0 ≤ highestNet) ⌝ }
     ensures { λ r.
-        ⌜ r ≡ each512 (deeperOver (rows (now (top .entry)) (now (bot .entry))) (now (old .entry)) (length (now (top .entry)))) ⌝ }
+        ⌜ r
+        ≡ each512
+        (deeperOver (rows (now (top .entry)) (now (bot .entry))) (now (old .entry)) (length (now (top .entry)))) ⌝ }
 {
-    let mut new = [1u32; 512];
+    let mut new = [1u32; NET_SLOTS];
     let mut i: usize = 0;
     while i < top.len() {
         let a = top[i];
@@ -49,12 +54,12 @@ fn deeper(top: &[u32], bot: &[u32], old: &[u32; 512]) -> [u32; 512]
 }
 
 // The greatest of the depths of nets with spans.
-fn deepest(first: &[u32; 512], last: &[u32; 512], depth: &[u32; 512]) -> u32
+fn deepest(first: &[u32; NET_SLOTS], last: &[u32; NET_SLOTS], depth: &[u32; NET_SLOTS]) -> u32
     ensures { λ r. ⌜ r ≡ deepestTo (now (first .entry)) (now (last .entry)) (now (depth .entry)) highestNet ⌝ }
 {
     let mut most: u32 = 0;
     let mut n: usize = 0;
-    while n < 511 {
+    while n < NETS {
         n += 1;
         if first[n] < last[n] && most < depth[n] {
             most = depth[n];
@@ -64,12 +69,13 @@ fn deepest(first: &[u32; 512], last: &[u32; 512], depth: &[u32; 512]) -> u32
 }
 
 // The chain of a channel that escapes refusals 3 to 6: 0 where it is tangled. At most 512 rounds over the columns.
-pub fn longest_chain(top: &[u32], bot: &[u32], first: &[u32; 512], last: &[u32; 512]) -> u32
-    requires { ⌜ Escapes (rows (now top) (now bot)) × (now first ≡ firsts (rows (now top) (now bot))) × (now last ≡ lasts (rows (now top) (now bot))) ⌝ }
+fn longest_chain(top: &[u32], bot: &[u32], first: &[u32; NET_SLOTS], last: &[u32; NET_SLOTS]) -> u32
+    requires { ⌜ Escapes (rows (now top) (now bot)) × (now first ≡ firsts (rows (now top) (now bot)))
+        × (now last ≡ lasts (rows (now top) (now bot))) ⌝ }
     ensures { λ r. ⌜ r ≡ chain (rows (now (top .entry)) (now (bot .entry))) ⌝ }
 {
     let nets = count_nets(first);
-    let mut depth = [0u32; 512];
+    let mut depth = [0u32; NET_SLOTS];
     let mut rounds: u32 = 0;
     while rounds <= nets {
         depth = deeper(top, bot, &depth);
@@ -90,10 +96,12 @@ pub fn bounds(top: &[u32], bot: &[u32]) -> BoundsAnswer
         RowsAnswer::Refused(refusal) => BoundsAnswer::Refused(refusal),
         RowsAnswer::Accepted => {
             let s = crate::spans::find_spans(top, bot);
-            let first = s.first;
-            let last = s.last;
+            let typed_first = s.first;
+            let typed_last = s.last;
+            let first = plain_columns(typed_first);
+            let last = plain_columns(typed_last);
             BoundsAnswer::Bounds {
-                density: crate::density::greatest_density(top, bot, &first, &last),
+                density: crate::density::greatest_density(top, bot, s),
                 chain: longest_chain(top, bot, &first, &last),
             }
         }

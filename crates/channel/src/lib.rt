@@ -10,8 +10,10 @@ pub use density::greatest_density;
 pub use density::nets_starting;
 use refusal::Refusal;
 pub use rows::check;
+pub use spans::Span;
 pub use spans::Spans;
 pub use spans::find_spans;
+pub use spans::plain_columns;
 
 // What the check of two rows answers.
 pub enum RowsAnswer {

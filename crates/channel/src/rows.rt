@@ -2,10 +2,13 @@
 ghost use mathlib.Core.Path.{_≡_};
 ghost use Prim.Native.Nat.{ℕ, _≤_, _<_};
 ghost use lib.ListN.{length, getD};
-ghost use Rattle.channel.specs.Channel.{rows};
+ghost use Rattle.channel.specs.Channel.{rows, widest};
 ghost use Rattle.channel.specs.Answers.{rowsAnswer};
 ghost use Rattle.channel.specs.Rows.{firstHigh, tally, firstLone};
 use crate::RowsAnswer;
+use grid::HIGHEST_NET;
+use grid::NET_SLOTS;
+use grid::WIDEST;
 use refusal::Refusal;
 
 // The place, from 1, of the first number over 511 in a row, or 0 if there is none.
@@ -14,7 +17,7 @@ fn first_high(row: &[u32]) -> usize
 {
     let mut i: usize = 0;
     while i < row.len() {
-        if 511 < row[i] {
+        if HIGHEST_NET < row[i] {
             return i + 1;
         }
         i += 1;
@@ -23,8 +26,9 @@ fn first_high(row: &[u32]) -> usize
 }
 
 // Counts each number of a row one more time; the numbers are at most 511, and no count is near its limit.
-fn count_pins(row: &[u32], counts: &mut [u32; 512])
-    requires { ⌜ (firstHigh (now row) ≡ 0) × (length (now row) ≤ 512) × ((n : ℕ) → n < 512 → getD (now counts) n 0 ≤ 512) ⌝ }
+fn count_pins(row: &[u32], counts: &mut [u32; NET_SLOTS])
+    requires { ⌜ (firstHigh (now row) ≡ 0) × (length (now row) ≤ widest)
+        × ((n : ℕ) → n < 512 → getD (now counts) n 0 ≤ widest) ⌝ }
     ensures { λ _. ⌜ now (counts .exit) ≡ tally (now (row .entry)) (now (counts .entry)) ⌝ }
 {
     let mut i: usize = 0;
@@ -36,11 +40,11 @@ fn count_pins(row: &[u32], counts: &mut [u32; 512])
 }
 
 // The lowest net from 1 on that is counted just once, or 0 if there is none.
-fn first_lone(counts: &[u32; 512]) -> usize
+fn first_lone(counts: &[u32; NET_SLOTS]) -> usize
     ensures { λ r. ⌜ r ≡ firstLone (now (counts .entry)) ⌝ }
 {
     let mut n: usize = 1;
-    while n < 512 {
+    while n < NET_SLOTS {
         if counts[n] == 1 {
             return n;
         }
@@ -55,8 +59,8 @@ pub fn check(top: &[u32], bot: &[u32]) -> RowsAnswer
 {
     let a = top.len();
     let b = bot.len();
-    if 512 < a || 512 < b {
-        return RowsAnswer::Refused(Refusal::TooWide(513));
+    if WIDEST < a || WIDEST < b {
+        return RowsAnswer::Refused(Refusal::TooWide(WIDEST + 1));
     }
     if a != b {
         let shorter = if a < b { a } else { b };
@@ -73,7 +77,7 @@ pub fn check(top: &[u32], bot: &[u32]) -> RowsAnswer
     if low != 0 {
         return RowsAnswer::Refused(Refusal::HighNet(a + low));
     }
-    let mut counts = [0u32; 512];
+    let mut counts = [0u32; NET_SLOTS];
     count_pins(top, &mut counts);
     count_pins(bot, &mut counts);
     let lone = first_lone(&counts);

@@ -1,24 +1,62 @@
 // The first and the last pin column of every net, in one pass over the columns.
 ghost use mathlib.Core.Path.{_≡_};
-ghost use Prim.Native.Nat.{_<_};
+ghost use mathlib.Core.List.{map};
+ghost use Prim.Native.Nat.{_≤_};
 ghost use lib.ListN.{set};
-ghost use Rattle.channel.specs.Channel.{rows};
+ghost use Rattle.grid.specs.Pieces.{column};
+ghost use Rattle.channel.specs.Channel.{highestNet, rows};
 ghost use Rattle.channel.specs.Answers.{Escapes};
-ghost use Rattle.channel.specs.Spans.{firsts, lasts};
+ghost use Rattle.channel.specs.Spans.{SpansFound};
 ghost use Rattle.channel.specs.Starts.{firstNoted};
 use grid::Column;
+use grid::NET_SLOTS;
 use grid::Net;
 
-// The columns of each net, by its number; 0 where a number has no pin.
+// The columns of each net, by its number; column 0 where a number has no pin.
 pub struct Spans {
-    pub first: [u32; 512],
-    pub last: [u32; 512],
+    pub first: [Column; NET_SLOTS],
+    pub last: [Column; NET_SLOTS],
+}
+
+// The columns of one net.
+pub struct Span {
+    pub first: Column,
+    pub last: Column,
+}
+
+// The numbers of columns, for a loop that is lent plain numbers.
+pub fn plain_columns(columns: [Column; NET_SLOTS]) -> [u32; NET_SLOTS]
+    ensures { λ r. ⌜ r ≡ map (λ c. c .0) columns ⌝ }
+{
+    let mut plain = [0u32; NET_SLOTS];
+    let mut i: usize = 0;
+    while i < NET_SLOTS {
+        let c = columns[i];
+        plain[i] = c.0;
+        i += 1;
+    }
+    plain
+}
+
+// Numbers as columns.
+fn typed_columns(plain: [u32; NET_SLOTS]) -> [Column; NET_SLOTS]
+    ensures { λ r. ⌜ r ≡ map column plain ⌝ }
+{
+    let mut columns = [Column(0); NET_SLOTS];
+    let mut i: usize = 0;
+    while i < NET_SLOTS {
+        columns[i] = Column(plain[i]);
+        i += 1;
+    }
+    columns
 }
 
 // Notes a pin of net n in column c, which is no earlier than the columns noted so far.
-fn note(first: &mut [u32; 512], last: &mut [u32; 512], n: Net, c: Column)
-    requires { ⌜ n .0 < 512 ⌝ }
-    ensures { λ _. ⌜ (now (first .exit) ≡ firstNoted (now (first .entry)) (n .0) (c .0)) × (now (last .exit) ≡ set (now (last .entry)) (n .0) (c .0)) ⌝ }
+fn note(first: &mut [u32; NET_SLOTS], last: &mut [u32; NET_SLOTS], n: Net, c: Column)
+    requires { ⌜ n .0 ≤ highestNet ⌝ }
+    ensures { λ _.
+        ⌜ (now (first .exit) ≡ firstNoted (now (first .entry)) (n .0) (c .0))
+        × (now (last .exit) ≡ set (now (last .entry)) (n .0) (c .0)) ⌝ }
 {
     let i = n.0 as usize;
     if first[i] == 0 {
@@ -30,11 +68,10 @@ fn note(first: &mut [u32; 512], last: &mut [u32; 512], n: Net, c: Column)
 // The spans of a channel that escapes refusals 3 to 6.
 pub fn find_spans(top: &[u32], bot: &[u32]) -> Spans
     requires { ⌜ Escapes (rows (now top) (now bot)) ⌝ }
-    ensures { λ r.
-        ⌜ (r .first ≡ firsts (rows (now (top .entry)) (now (bot .entry)))) × (r .last ≡ lasts (rows (now (top .entry)) (now (bot .entry)))) ⌝ }
+    ensures { λ r. ⌜ SpansFound (rows (now (top .entry)) (now (bot .entry))) r ⌝ }
 {
-    let mut first = [0u32; 512];
-    let mut last = [0u32; 512];
+    let mut first = [0u32; NET_SLOTS];
+    let mut last = [0u32; NET_SLOTS];
     let mut i: usize = 0;
     while i < top.len() {
         let c = Column(i as u32 + 1);
@@ -42,5 +79,8 @@ pub fn find_spans(top: &[u32], bot: &[u32]) -> Spans
         note(&mut first, &mut last, Net(bot[i]), c);
         i += 1;
     }
-    Spans { first, last }
+    Spans {
+        first: typed_columns(first),
+        last: typed_columns(last),
+    }
 }

@@ -38,14 +38,16 @@ module _ (ch : Channel) (esc : Escapes ch) (t : ℕ) (ps : List Place) (f : Fill
   unfolding Owns
   joined→net x y j = sym (owns-joined ch esc t ps f (netOf ch x) j refl)
 
-  net→joined : (x y : Pin) → IsPin ch x → IsPin ch y → netOf ch x ≡ netOf ch y → Joined ch (draw ch t ps) (pin x) (pin y)
+  net→joined : (x y : Pin) → IsPin ch x → IsPin ch y → netOf ch x ≡ netOf ch y
+      → Joined ch (draw ch t ps) (pin x) (pin y)
   unfolding Present
   net→joined x y isX isY e =
       let n = netOf ch x in
       let h = hub ch esc t ps f n (pin→net ch esc n (columnOf x) isX (pin-in ch (esc .even) x n isX refl)) in
       joined-trans (h .joined x refl) (joined-sym {x = pin y} isY (h .joined y (sym e)))
 
-  floating : (p : Piece) → List·Memᴰ p (draw ch t ps .pieces) → (x : Pin) × IsPin ch x × Joined ch (draw ch t ps) (copper p) (pin x)
+  floating : (p : Piece) → List·Memᴰ p (draw ch t ps .pieces)
+      → (x : Pin) × IsPin ch x × Joined ch (draw ch t ps) (copper p) (pin x)
   unfolding Present
   floating p m =
       let r = reached ch esc t ps f (drawn ch esc t ps m .1) in
@@ -54,18 +56,23 @@ module _ (ch : Channel) (esc : Escapes ch) (t : ℕ) (ps : List Place) (f : Fill
   column-no-trunk : (k n c : ℕ) {p : Piece} → List·Memᴰ p (drawColumn ch t k n c) → kindOf p ≡ trunkKind → ⊥
   unfolding drawColumn branchIn kindOf
   column-no-trunk k n c {p} m e =
-      let same-kind : (q : Piece) → p ≡ q → kindOf q ≡ trunkKind = λ q d. subst (λ (r : Piece). kindOf r ≡ trunkKind) d e in
-      ⊎-elim (λ d. let z = same-kind _ d in omega arith) (λ l. let z = same-kind _ (List·Memᴰ·eq-of-singleton l) in omega arith) (List·Memᴰ·cases-cons m)
+      let same-kind : (q : Piece) → p ≡ q → kindOf q ≡ trunkKind = λ q d.
+      subst (λ (r : Piece). kindOf r ≡ trunkKind) d e in
+      ⊎-elim (λ d. let z = same-kind _ d in omega arith)
+      (λ l. let z = same-kind _ (List·Memᴰ·eq-of-singleton l) in omega arith) (List·Memᴰ·cases-cons m)
 
   -- the only trunk of a net stands first of its pieces
-  trunk-first : (n i : ℕ) (p : Piece) → getElem? (drawNet ch t ps n) i ≡ some p → kindOf p ≡ trunkKind → i ≡ 0
+  trunk-first : (n i : ℕ) (p : Piece) → getElem? (drawNet ch t (trackOf ps n) n) i ≡ some p
+      → kindOf p ≡ trunkKind → i ≡ 0
   unfolding drawNet drawSpan drawStraight
   trunk-first n i p e k = go (hasSpan ch n) i e
     where
-      go : (b : Bool) (j : ℕ) → getElem? (cond b (drawSpan ch t (trackOf ps n) n) (drawStraight ch t n)) j ≡ some p → j ≡ 0
+      go : (b : Bool) (j : ℕ) → getElem? (cond b (drawSpan ch t (trackOf ps n) n) (drawStraight ch t n)) j ≡ some p
+          → j ≡ 0
       go true zero q = refl
       go true (suc j) q =
-          let r = each-member (drawColumn ch t (trackOf ps n) n) (pinColumns ch n) (place-member (each (drawColumn ch t (trackOf ps n) n) (pinColumns ch n)) j q) in
+          let r = each-member (drawColumn ch t (trackOf ps n) n) (pinColumns ch n)
+          (place-member (each (drawColumn ch t (trackOf ps n) n) (pinColumns ch n)) j q) in
           absurd (column-no-trunk (trackOf ps n) n (r .0) (r .2) k)
       go false zero q = refl
       go false (suc j) q = absurd (Option·none-ne-some p q)
@@ -76,9 +83,22 @@ module _ (ch : Channel) (esc : Escapes ch) (t : ℕ) (ps : List Place) (f : Fill
 
   one-trunk : OneTrunkEach ch (draw ch t ps)
   unfolding draw Owns TrunkTo
-  one-trunk n i j a b = one-place (drawNet ch t ps) (TrunkTo n) n (λ m k l y z d₁ d₂ h₁ h₂. let z₁ = trunk-first m k y d₁ (h₁ .0) in let z₂ = trunk-first m l z d₂ (h₂ .0) in omega arith) (nets ch) (nets-rising ch)
-      (λ m y k d h. sym (owns-joined ch esc t ps f m (h .1 .2) (net-drawn ch esc t ps m (nets→ ch m k) d)) ∙ h .1 .1) i j (a .piece) (b .piece) (a .place) (b .place) (a .trunk, (a .pinOf, a .net, a .joined)) (b .trunk, (b .pinOf, b .net, b .joined))
+  one-trunk n i j a b =
+      one-place (λ m. drawNet ch t (trackOf ps m) m) (TrunkTo n) n
+      (λ m k l y z d₁ d₂ h₁ h₂. omega (arith, trunk-first m k y d₁ (h₁ .0), trunk-first m l z d₂ (h₂ .0)))
+      (nets ch) (nets-rising ch)
+      (λ m y k d h. sym (owns-joined ch esc t ps f m (h .1 .2) (net-drawn ch esc t ps m (nets→ ch m k) d)) ∙ h .1 .1)
+      i j (a .piece) (b .piece) (a .place) (b .place)
+      (a .trunk, (a .pinOf, a .net, a .joined)) (b .trunk, (b .pinOf, b .net, b .joined))
 
-pub drawn-good : (ch : Channel) → Escapes ch → (t : ℕ) (ps : List Place) → FilledBy (netItems ch) t ps → Good ch (draw ch t ps) × OneTrunkEach ch (draw ch t ps)
-drawn-good ch esc t ps f =
-    (record { onGrid = grid ch esc t ps f; joins = λ x y isX isY. (joined→net ch esc t ps f x y, net→joined ch esc t ps f x y isX isY); floats = floating ch esc t ps f }, one-trunk ch esc t ps f)
+pub drawn-good : (ch : Channel) → Escapes ch → (t : ℕ) (ps : List Place) → FilledBy (netItems ch) t ps
+    → Good ch (draw ch t ps) × OneTrunkEach ch (draw ch t ps)
+drawn-good ch esc t ps f = (
+  record {
+    onGrid = grid ch esc t ps f;
+    joins = λ x y isX isY.
+        (joined→net ch esc t ps f x y, net→joined ch esc t ps f x y isX isY);
+    floats = floating ch esc t ps f;
+  },
+  one-trunk ch esc t ps f,
+)

@@ -1,4 +1,5 @@
--- The net that drew a piece, and what it drew: its trunk, in each of its pin columns a branch and a contact, or the one branch of a straight net.
+-- The net that drew a piece, and what it drew: its trunk, in each of its pin columns a branch and a contact, or the one
+-- branch of a straight net.
 use Prim.Native.Nat.{ℕ, _+_, _≤_, _<_}
 use mathlib.Core.Path.{_≡_, refl, sym, subst}
 use mathlib.Core.List.{List, List·Memᴰ, List·Memᴰ·head, List·Memᴰ·tail, List·Memᴰ·cases-cons, List·Memᴰ·eq-of-singleton}
@@ -55,7 +56,8 @@ module _ (ch : Channel) (esc : Escapes ch) where
       record { isNet = h; noSpan = s; here = r .0; first = p .first; last = p .last; onTop = r .1; onBot = r .2 }
 
   module _ (t : ℕ) (ps : List Place) where
-    span-drawn : (n : ℕ) → List·Memᴰ n (spanning ch) → {p : Piece} → List·Memᴰ p (drawSpan ch t (trackOf ps n) n) → Drawn ch t ps n p
+    span-drawn : (n : ℕ) → List·Memᴰ n (spanning ch) → {p : Piece} → List·Memᴰ p (drawSpan ch t (trackOf ps n) n)
+        → Drawn ch t ps n p
     unfolding drawSpan drawColumn
     span-drawn n s {p} m = ⊎-elim (λ e. subst (Drawn ch t ps n) (sym e) (trunk s)) in-column (List·Memᴰ·cases-cons m)
       where
@@ -63,47 +65,64 @@ module _ (ch : Channel) (esc : Escapes ch) where
         in-column k =
             let r = each-member (drawColumn ch t (trackOf ps n) n) (pinColumns ch n) k in
             let q = pin-column ch n (r .0) (r .1) in
-            ⊎-elim (λ e. subst (Drawn ch t ps n) (sym e) (branch s q)) (λ l. subst (Drawn ch t ps n) (sym (List·Memᴰ·eq-of-singleton l)) (contact s q)) (List·Memᴰ·cases-cons (r .2))
+            ⊎-elim (λ e. subst (Drawn ch t ps n) (sym e) (branch s q))
+            (λ l. subst (Drawn ch t ps n) (sym (List·Memᴰ·eq-of-singleton l)) (contact s q))
+            (List·Memᴰ·cases-cons (r .2))
 
-    pub net-drawn : (n : ℕ) → IsNet ch n → {p : Piece} → List·Memᴰ p (drawNet ch t ps n) → Drawn ch t ps n p
+    pub net-drawn : (n : ℕ) → IsNet ch n → {p : Piece} → List·Memᴰ p (drawNet ch t (trackOf ps n) n)
+        → Drawn ch t ps n p
     unfolding drawNet drawStraight hasSpan
     net-drawn n h {p} m = go (hasSpan ch n) refl m
       where
-        go : (b : Bool) → hasSpan ch n ≡ b → List·Memᴰ p (cond b (drawSpan ch t (trackOf ps n) n) (drawStraight ch t n)) → Drawn ch t ps n p
-        go true e k = span-drawn n (→spanning ch n h (ltb→lt (firstColumn ch n) (lastColumn ch n) (true→T (hasSpan ch n) e))) k
+        go : (b : Bool) → hasSpan ch n ≡ b → List·Memᴰ p (cond b (drawSpan ch t (trackOf ps n) n) (drawStraight ch t n))
+            → Drawn ch t ps n p
+        go true e k =
+            span-drawn n (→spanning ch n h (ltb→lt (firstColumn ch n) (lastColumn ch n) (true→T (hasSpan ch n) e))) k
         go false e k =
-            let s : (firstColumn ch n < lastColumn ch n → ⊥) = λ l. false→fails (hasSpan ch n) e (lt→ltb (firstColumn ch n) (lastColumn ch n) l) in
-            subst (Drawn ch t ps n) (sym (List·Memᴰ·eq-of-singleton k)) (straight (straight-in n (firstColumn ch n) h s (net-pin n h)))
+            let s : (firstColumn ch n < lastColumn ch n → ⊥) = λ l.
+            false→fails (hasSpan ch n) e (lt→ltb (firstColumn ch n) (lastColumn ch n) l) in
+            subst (Drawn ch t ps n) (sym (List·Memᴰ·eq-of-singleton k))
+            (straight (straight-in n (firstColumn ch n) h s (net-pin n h)))
 
     -- every piece is drawn by some net
     pub drawn : {p : Piece} → List·Memᴰ p (draw ch t ps .pieces) → (n : ℕ) × Drawn ch t ps n p
     unfolding draw
-    drawn m = let r = each-member (drawNet ch t ps) (nets ch) m in (r .0, net-drawn (r .0) (nets→ ch (r .0) (r .1)) (r .2))
+    drawn m =
+        let r = each-member (λ n. drawNet ch t (trackOf ps n) n) (nets ch) m in
+        (r .0, net-drawn (r .0) (nets→ ch (r .0) (r .1)) (r .2))
 
     -- what a net draws is in the layout
-    span-present : (n : ℕ) → List·Memᴰ n (spanning ch) → {p : Piece} → List·Memᴰ p (drawSpan ch t (trackOf ps n) n) → List·Memᴰ p (draw ch t ps .pieces)
-    unfolding draw drawNet hasSpan
+    span-present : (n : ℕ) → List·Memᴰ n (spanning ch) → {p : Piece} → List·Memᴰ p (drawSpan ch t (trackOf ps n) n)
+        → List·Memᴰ p (draw ch t ps .pieces)
+    unfolding draw drawNet
     span-present n s {p} m =
         let r = spanning→ ch n s in
-        in-each (drawNet ch t ps) (→nets ch n (r .0)) (subst (λ (b : Bool). List·Memᴰ p (cond b (drawSpan ch t (trackOf ps n) n) (drawStraight ch t n))) (sym (T→true (hasSpan ch n) (lt→ltb (firstColumn ch n) (lastColumn ch n) (r .1)))) m)
+        let spans = T→true (hasSpan ch n) (r .1) in
+        in-each (λ i. drawNet ch t (trackOf ps i) i) (→nets ch n (r .0)) (rw spans m)
 
     pub trunk-present : (n : ℕ) → List·Memᴰ n (spanning ch) → List·Memᴰ (trunkPiece ch ps n) (draw ch t ps .pieces)
     unfolding drawSpan
     trunk-present n s = span-present n s (List·Memᴰ·head refl)
 
-    column-present : (n c : ℕ) → List·Memᴰ n (spanning ch) → PinIn ch n c → {p : Piece} → List·Memᴰ p (drawColumn ch t (trackOf ps n) n c) → List·Memᴰ p (draw ch t ps .pieces)
+    column-present : (n c : ℕ) → List·Memᴰ n (spanning ch) → PinIn ch n c → {p : Piece}
+        → List·Memᴰ p (drawColumn ch t (trackOf ps n) n c) → List·Memᴰ p (draw ch t ps .pieces)
     unfolding drawSpan
-    column-present n c s q m = span-present n s (List·Memᴰ·tail (in-each (drawColumn ch t (trackOf ps n) n) (in-pin-columns ch n c q) m))
+    column-present n c s q m =
+        span-present n s (List·Memᴰ·tail (in-each (drawColumn ch t (trackOf ps n) n) (in-pin-columns ch n c q) m))
 
-    pub branch-present : (n c : ℕ) → List·Memᴰ n (spanning ch) → PinIn ch n c → List·Memᴰ (branchIn ch t (trackOf ps n) n c) (draw ch t ps .pieces)
+    pub branch-present : (n c : ℕ) → List·Memᴰ n (spanning ch) → PinIn ch n c
+        → List·Memᴰ (branchIn ch t (trackOf ps n) n c) (draw ch t ps .pieces)
     unfolding drawColumn
     branch-present n c s q = column-present n c s q (List·Memᴰ·head refl)
 
-    pub contact-present : (n c : ℕ) → List·Memᴰ n (spanning ch) → PinIn ch n c → List·Memᴰ (contactPiece ps n c) (draw ch t ps .pieces)
+    pub contact-present : (n c : ℕ) → List·Memᴰ n (spanning ch) → PinIn ch n c
+        → List·Memᴰ (contactPiece ps n c) (draw ch t ps .pieces)
     unfolding drawColumn
     contact-present n c s q = column-present n c s q (List·Memᴰ·tail (List·Memᴰ·head refl))
 
-    pub straight-present : (n : ℕ) → IsNet ch n → (firstColumn ch n < lastColumn ch n → ⊥) → List·Memᴰ (straightPiece t (firstColumn ch n)) (draw ch t ps .pieces)
+    pub straight-present : (n : ℕ) → IsNet ch n → (firstColumn ch n < lastColumn ch n → ⊥)
+        → List·Memᴰ (straightPiece t (firstColumn ch n)) (draw ch t ps .pieces)
     unfolding draw drawNet drawStraight hasSpan
     straight-present n h s =
-        in-each (drawNet ch t ps) (→nets ch n h) (subst (λ (b : Bool). List·Memᴰ (straightPiece t (firstColumn ch n)) (cond b (drawSpan ch t (trackOf ps n) n) (drawStraight ch t n))) (sym (fails→false (hasSpan ch n) (λ k. s (ltb→lt (firstColumn ch n) (lastColumn ch n) k)))) (List·Memᴰ·head refl))
+        let none = fails→false (hasSpan ch n) (λ k. s (ltb→lt (firstColumn ch n) (lastColumn ch n) k)) in
+        in-each (λ i. drawNet ch t (trackOf ps i) i) (→nets ch n h) (rw none (List·Memᴰ·head refl))

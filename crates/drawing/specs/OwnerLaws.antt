@@ -1,4 +1,5 @@
--- Pieces that touch are drawn by one net, and a pin that touches a piece is of the net that drew it. So along a chain of touches the net stays the same.
+-- Pieces that touch are drawn by one net, and a pin that touches a piece is of the net that drew it. So along a chain
+-- of touches the net stays the same.
 use Prim.Native.Nat.{ℕ, _≤_}
 use native.Mathlib.Omega.{arith}
 use mathlib.Core.Path.{_≡_, sym, _∙_, subst}
@@ -10,7 +11,7 @@ use Rattle.lists.specs.Tests.{equal?}
 use Rattle.grid.specs.declared.Piece.{Piece}
 use Rattle.grid.specs.Pieces.{kindOf, trunkKind, branchKind}
 use Rattle.grid.specs.Touching.{Touch}
-use Rattle.grid.specs.TouchLaws.{crossing-apart, touch-sym}
+use Rattle.grid.specs.TouchLaws.{met-branch, crossing-apart, touch-sym}
 use Rattle.channel.specs.Channel.{Channel, spanning, firstColumn, lastColumn}
 use Rattle.channel.specs.Constraints.{Above}
 use Rattle.channel.specs.Answers.{Escapes}
@@ -27,9 +28,12 @@ use Rattle.drawing.specs.Owner.{Drawn, drawn}
 use Rattle.drawing.specs.Points.{OnTrunk, InShaft, drawn-on-trunk, drawn-in-shaft}
 
 -- of two pieces that touch none is a branch, or none is a trunk
-touch-layer : (p q : Piece) → Touch p q → ((kindOf p ≡ branchKind → ⊥) × (kindOf q ≡ branchKind → ⊥)) ⊎ ((kindOf p ≡ trunkKind → ⊥) × (kindOf q ≡ trunkKind → ⊥))
+touch-layer : (p q : Piece) → Touch p q → ((kindOf p ≡ branchKind → ⊥) × (kindOf q ≡ branchKind → ⊥)) ⊎
+    ((kindOf p ≡ trunkKind → ⊥) × (kindOf q ≡ trunkKind → ⊥))
 touch-layer p q h =
-    ⊎-elim (λ b. inr ((λ k. absurd (omega arith)), λ k. crossing-apart q p k b (touch-sym h))) (λ n. ⊎-elim (λ b. inr ((λ k. crossing-apart p q k b h), λ k. absurd (omega arith))) (λ m. inl (n, m)) (equal? (kindOf q) branchKind)) (equal? (kindOf p) branchKind)
+    ⊎-elim (λ b. inr ((λ k. absurd (omega arith)), λ k. crossing-apart q p k b (touch-sym h)))
+    (λ n. ⊎-elim (λ b. inr ((λ k. crossing-apart p q k b h), λ k. absurd (omega arith))) (λ m. inl (n, m))
+    (equal? (kindOf q) branchKind)) (equal? (kindOf p) branchKind)
 
 module _ (ch : Channel) (esc : Escapes ch) (t : ℕ) (ps : List Place) (f : FilledBy (netItems ch) t ps) where
   in-order : (n : ℕ) → List·Memᴰ n (spanning ch) → List·Memᴰ n (netItems ch .order)
@@ -42,40 +46,59 @@ module _ (ch : Channel) (esc : Escapes ch) (t : ℕ) (ps : List Place) (f : Fill
   trunk-owner : (m n x y : ℕ) → OnTrunk ch ps m x y → OnTrunk ch ps n x y → m ≡ n
   unfolding netItems
   trunk-owner m n x y p q =
-      ⊎-elim (λ e. e) (λ d. absurd (⊎-elim (λ h. let l = ltb→lt (lastColumn ch m) (firstColumn ch n) h in omega arith) (λ h. let l = ltb→lt (lastColumn ch n) (firstColumn ch m) h in omega arith) (f .side m n (in-order m (p .spans)) (in-order n (q .spans)) d (sym (p .onTrack) ∙ q .onTrack))))
+      ⊎-elim (λ e. e) (λ d. absurd (⊎-elim (λ h. let l = ltb→lt (lastColumn ch m) (firstColumn ch n) h in omega arith)
+      (λ h. let l = ltb→lt (lastColumn ch n) (firstColumn ch m) h in omega arith)
+      (f .side m n (in-order m (p .spans)) (in-order n (q .spans)) d (sym (p .onTrack) ∙ q .onTrack))))
       (equal? m n)
 
   -- in a column with a TOP pin of m and a BOT pin of n, the copper of m ends above that of n
   shaft-apart : (m n x y : ℕ) → (m ≡ n → ⊥) → at (ch .top) x ≡ m → InShaft ch ps m x y → InShaft ch ps n x y → ⊥
   unfolding netItems
-  shaft-apart m n x y d onTop p q = ⊎-elim (λ e. d (sym onTop ∙ e)) (λ r. ⊎-elim (λ e. d (sym e ∙ onBot)) (λ s. order (s .0) (r .0) (s .1) (r .1)) (p .downward)) (q .upward)
+  shaft-apart m n x y d onTop p q =
+      ⊎-elim (λ e. d (sym onTop ∙ e)) (λ r. ⊎-elim (λ e. d (sym e ∙ onBot)) (λ s. order (s .0) (r .0) (s .1) (r .1))
+      (p .downward)) (q .upward)
     where
       onBot : at (ch .bot) x ≡ n
       onBot = ⊎-elim (λ e. absurd (d (sym onTop ∙ e))) (λ e. e) (q .pinIn .pin)
 
       order : List·Memᴰ m (spanning ch) → List·Memᴰ n (spanning ch) → trackOf ps m ≤ y → y ≤ trackOf ps n → ⊥
       order sm sn h k =
-          let over : Above ch m n x = record { onTop = onTop; onBot = onBot; upper = positive-net ch m (spanning→ ch m sm .0 .positive); lower = positive-net ch n (spanning→ ch n sn .0 .positive); different = d } in
+          let over : Above ch m n x = record {
+            onTop = onTop;
+            onBot = onBot;
+            upper = positive-net ch m (spanning→ ch m sm .0 .positive);
+            lower = positive-net ch n (spanning→ ch n sn .0 .positive);
+            different = d;
+          } in
           let l = f .lower m n x (in-order m sm) (above→drop ch m n x over) in
           omega arith
 
   shaft-owner : (m n x y : ℕ) → InShaft ch ps m x y → InShaft ch ps n x y → m ≡ n
-  shaft-owner m n x y p q = ⊎-elim (λ e. e) (λ d. absurd (⊎-elim (λ e. shaft-apart m n x y d e p q) (λ e. ⊎-elim (λ g. shaft-apart n m x y (λ z. d (sym z)) g q p) (λ g. d (sym e ∙ g)) (q .pinIn .pin)) (p .pinIn .pin))) (equal? m n)
+  shaft-owner m n x y p q =
+      ⊎-elim (λ e. e) (λ d. absurd (⊎-elim (λ e. shaft-apart m n x y d e p q)
+      (λ e. ⊎-elim (λ g. shaft-apart n m x y (λ z. d (sym z)) g q p) (λ g. d (sym e ∙ g)) (q .pinIn .pin))
+      (p .pinIn .pin))) (equal? m n)
 
   -- pieces that touch are drawn by one net
   piece-owner : {m n : ℕ} {p q : Piece} → Drawn ch t ps m p → Drawn ch t ps n q → Touch p q → m ≡ n
   piece-owner {m} {n} {p} {q} a b h =
-      ⊎-elim (λ l. trunk-owner m n (h .column) (h .row) (drawn-on-trunk a (l .0) (h .column) (h .row) (h .covers₁)) (drawn-on-trunk b (l .1) (h .column) (h .row) (h .covers₂)))
-      (λ l. shaft-owner m n (h .column) (h .row) (drawn-in-shaft a (l .0) (h .column) (h .row) (h .covers₁)) (drawn-in-shaft b (l .1) (h .column) (h .row) (h .covers₂))) (touch-layer p q h)
+      ⊎-elim (λ l. trunk-owner m n (h .column) (h .row) (drawn-on-trunk a (l .0) (h .column) (h .row) (h .covers₁))
+      (drawn-on-trunk b (l .1) (h .column) (h .row) (h .covers₂)))
+      (λ l. shaft-owner m n (h .column) (h .row) (drawn-in-shaft a (l .0) (h .column) (h .row) (h .covers₁))
+      (drawn-in-shaft b (l .1) (h .column) (h .row) (h .covers₂))) (touch-layer p q h)
 
   -- copper reaches row 0 only under a BOT pin of its net, and row t+1 only over a TOP pin
   end-owner : (x : Pin) (n : ℕ) → InShaft ch ps n (columnOf x) (rowOf t x) → netOf ch x ≡ n
   unfolding columnOf rowOf netOf
-  end-owner (top c) n p = ⊎-elim (λ e. e) (λ r. let k = on-tracks n (r .0) in let h = r .1 in absurd (omega arith)) (p .upward)
-  end-owner (bot c) n p = ⊎-elim (λ e. e) (λ r. let k = on-tracks n (r .0) in let h = r .1 in absurd (omega arith)) (p .downward)
+  end-owner (top c) n p =
+      ⊎-elim (λ e. e) (λ r. let k = on-tracks n (r .0) in let h = r .1 in absurd (omega arith)) (p .upward)
+  end-owner (bot c) n p =
+      ⊎-elim (λ e. e) (λ r. let k = on-tracks n (r .0) in let h = r .1 in absurd (omega arith)) (p .downward)
 
   pin-owner : (x : Pin) {n : ℕ} {p : Piece} → Drawn ch t ps n p → PinTouch t x p → netOf ch x ≡ n
-  pin-owner x {n} a h = end-owner x n (drawn-in-shaft a (λ k. let b = h .branch in absurd (omega arith)) (columnOf x) (rowOf t x) (h .covered))
+  pin-owner x {n} a h =
+      end-owner x n (drawn-in-shaft a (λ k. let b = met-branch _ (h .meets) in absurd (omega arith)) (columnOf x)
+      (rowOf t x) (h .covered))
 
   -- the net of an element: of a pin its own, of a piece the one that drew it
   unfoldable pub Owns : ℕ → Element → Type 0

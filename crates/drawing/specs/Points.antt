@@ -1,4 +1,5 @@
--- The points that the pieces of a net cover: those of its trunk, and those of its pin columns, above its track only over a TOP pin and below it only under a BOT pin.
+-- The points that the pieces of a net cover: those of its trunk, and those of its pin columns, above its track only
+-- over a TOP pin and below it only under a BOT pin.
 use Prim.Native.Nat.{ℕ, _+_, _≤_}
 use native.Mathlib.Omega.{arith}
 use mathlib.Core.Path.{_≡_, refl, sym, subst}
@@ -14,7 +15,7 @@ use Rattle.grid.specs.Touching.{Covers}
 use Rattle.channel.specs.Channel.{Channel, width, spanning, firstColumn, lastColumn}
 use Rattle.channel.specs.Answers.{Escapes}
 use Rattle.channel.specs.Laws.{PinIn, pin-after-first, pin-before-last, pin-in-last}
-use Rattle.channel.specs.SpanLaws.{spanning→}
+use Rattle.channel.specs.SpanLaws.{span-strict, spanning→}
 use Rattle.leftedge.specs.Items.{Place, trackOf}
 use Rattle.drawing.specs.Draw.{branchIn}
 use Rattle.drawing.specs.Owner.{Drawn, trunk, branch, contact, straight, net-pin}
@@ -25,8 +26,13 @@ Picked a b k l = ((a ≡ b) × (cond (eqb a b) k l ≡ k)) ⊎ ((a ≡ b → ⊥
 
 pub picked : (a b k l : ℕ) → Picked a b k l
 picked a b k l =
-    ⊎-elim (λ e. inl (e, subst (λ (c : Bool). cond c k l ≡ k) (sym (T→true (eqb a b) (subst (λ (n : ℕ). T (eqb a n)) e (eqb-refl a)))) refl))
-    (λ d. inr (d, subst (λ (c : Bool). cond c k l ≡ l) (sym (fails→false (eqb a b) (λ t. d (eqb→eq a b t)))) refl)) (equal? a b)
+    ⊎-elim (λ e. inl (
+      e,
+      subst (λ (c : Bool). cond c k l ≡ k)
+          (sym (T→true (eqb a b) (subst (λ (n : ℕ). T (eqb a n)) e (eqb-refl a)))) refl,
+    ))
+    (λ d. inr (d, subst (λ (c : Bool). cond c k l ≡ l) (sym (fails→false (eqb a b) (λ t. d (eqb→eq a b t)))) refl))
+    (equal? a b)
 
 -- the point at column x and row y lies on the trunk of net n
 pub record OnTrunk (ch : Channel) (ps : List Place) (n x y : ℕ) : Type 0 where
@@ -43,7 +49,8 @@ pub record InShaft (ch : Channel) (ps : List Place) (n x y : ℕ) : Type 0 where
 
 module _ {ch : Channel} {t : ℕ} {ps : List Place} where
   -- a trunk or a contact lies on its net's trunk
-  pub drawn-on-trunk : {n : ℕ} {p : Piece} → Drawn ch t ps n p → (kindOf p ≡ branchKind → ⊥) → (x y : ℕ) → Covers p x y → OnTrunk ch ps n x y
+  pub drawn-on-trunk : {n : ℕ} {p : Piece} → Drawn ch t ps n p → (kindOf p ≡ branchKind → ⊥) → (x y : ℕ) → Covers p x y
+      → OnTrunk ch ps n x y
   unfolding kindOf left right low high branchIn
   drawn-on-trunk (trunk s) nb x y c =
       let a = c .fromLow in
@@ -61,7 +68,8 @@ module _ {ch : Channel} {t : ℕ} {ps : List Place} where
   drawn-on-trunk (straight r) nb x y c = absurd (nb refl)
 
   -- a branch or a contact lies in its net's pin column
-  pub drawn-in-shaft : {n : ℕ} {p : Piece} → Drawn ch t ps n p → (kindOf p ≡ trunkKind → ⊥) → (x y : ℕ) → Covers p x y → InShaft ch ps n x y
+  pub drawn-in-shaft : {n : ℕ} {p : Piece} → Drawn ch t ps n p → (kindOf p ≡ trunkKind → ⊥) → (x y : ℕ) → Covers p x y
+      → InShaft ch ps n x y
   unfolding kindOf left right low high branchIn
   drawn-in-shaft (trunk s) nt x y c = absurd (nt refl)
   drawn-in-shaft {n} (branch {c = e} s q) nt x y c =
@@ -70,7 +78,13 @@ module _ {ch : Channel} {t : ℕ} {ps : List Place} where
       let c₃ = c .fromLow in
       let c₄ = c .toHigh in
       let here : e ≡ x = omega arith in
-      let shaft : InShaft ch ps n e y = record { pinIn = q; upward = ⊎-elim (λ r. inl (r .0)) (λ r. let h = r .1 in inr (s, omega arith)) (picked (at (ch .top) e) n (t + 1) (trackOf ps n)); downward = ⊎-elim (λ r. inl (r .0)) (λ r. let h = r .1 in inr (s, omega arith)) (picked (at (ch .bot) e) n 0 (trackOf ps n)) } in
+      let shaft : InShaft ch ps n e y = record {
+        pinIn = q;
+        upward = ⊎-elim (λ r. inl (r .0)) (λ r. let h = r .1 in inr (s, omega arith))
+            (picked (at (ch .top) e) n (t + 1) (trackOf ps n));
+        downward = ⊎-elim (λ r. inl (r .0)) (λ r. let h = r .1 in inr (s, omega arith))
+            (picked (at (ch .bot) e) n 0 (trackOf ps n));
+      } in
       subst (λ (k : ℕ). InShaft ch ps n k y) here shaft
   drawn-in-shaft {n} (contact {c = e} s q) nt x y c =
       let c₁ = c .fromLeft in
@@ -78,27 +92,43 @@ module _ {ch : Channel} {t : ℕ} {ps : List Place} where
       let c₃ = c .fromLow in
       let c₄ = c .toHigh in
       let here : e ≡ x = omega arith in
-      record { pinIn = subst (λ (k : ℕ). PinIn ch n k) here q; upward = inr (s, omega arith); downward = inr (s, omega arith) }
+      record {
+        pinIn = subst (λ (k : ℕ). PinIn ch n k) here q;
+        upward = inr (s, omega arith);
+        downward = inr (s, omega arith);
+      }
   drawn-in-shaft {n} (straight {c = e} r) nt x y c =
       let c₁ = c .fromLeft in
       let c₂ = c .toRight in
       let here : e ≡ x = omega arith in
-      let shaft : InShaft ch ps n e y = record { pinIn = record { first = r .first; last = r .last; pin = inl (r .onTop) }; upward = inl (r .onTop); downward = inl (r .onBot) } in
+      let shaft : InShaft ch ps n e y = record {
+        pinIn =
+            record { first = r .first; last = r .last; pin = inl (r .onTop) };
+        upward = inl (r .onTop);
+        downward = inl (r .onBot);
+      } in
       subst (λ (k : ℕ). InShaft ch ps n k y) here shaft
 
   -- pieces lie on the grid, if each net with a span has one of the tracks
-  pub drawn-on-grid : Escapes ch → {n : ℕ} {p : Piece} → (List·Memᴰ n (spanning ch) → (1 ≤ trackOf ps n) × (trackOf ps n ≤ t)) → Drawn ch t ps n p → OnGrid (width ch) t p
+  pub drawn-on-grid : Escapes ch → {n : ℕ} {p : Piece}
+      → (List·Memᴰ n (spanning ch) → (1 ≤ trackOf ps n) × (trackOf ps n ≤ t)) → Drawn ch t ps n p
+      → OnGrid (width ch) t p
   unfolding OnGrid branchIn
   drawn-on-grid esc {n} tracked (trunk s) =
       let k = tracked s in
       let r = spanning→ ch n s in
-      let h = r .1 in
+      let h = span-strict ch n (r .1) in
       let a = net-pin ch esc n (r .0) in
       let b = pin-in-last ch n (firstColumn ch n) a in
       (k .0, k .1, a .first, h, b .last)
   drawn-on-grid esc {n} tracked (branch {c = e} s q) =
-      let k = tracked s in
-      (q .first, q .last, ⊎-elim (λ a. ⊎-elim (λ b. omega arith) (λ b. omega arith) bottom) (λ a. ⊎-elim (λ b. omega arith) (λ b. absurd (⊎-elim (a .0) (b .0) (q .pin))) bottom) above, ⊎-elim (λ a. omega arith) (λ a. omega arith) above)
+      let k = tracked s in (
+        q .first,
+        q .last,
+        ⊎-elim (λ a. ⊎-elim (λ b. omega arith) (λ b. omega arith) bottom)
+            (λ a. ⊎-elim (λ b. omega arith) (λ b. absurd (⊎-elim (a .0) (b .0) (q .pin))) bottom) above,
+        ⊎-elim (λ a. omega arith) (λ a. omega arith) above,
+      )
     where
       above : Picked (at (ch .top) e) n (t + 1) (trackOf ps n)
       above = picked (at (ch .top) e) n (t + 1) (trackOf ps n)

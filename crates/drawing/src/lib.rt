@@ -1,19 +1,20 @@
 // The pieces of a filled channel, straight into a board file.
 ghost use mathlib.Core.Path.{_≡_};
-ghost use Prim.Native.Nat.{ℕ, _+_, _*_, _≤_, _<_};
+ghost use Prim.Native.Nat.{_+_, _*_, _≤_, _<_};
 ghost use mathlib.Core.List.{[], _∷_};
 ghost use mathlib.Core.Bool.{cond};
 ghost use lib.ListN.{length};
 ghost use lib.Dec.{eqb};
-ghost use Rattle.lists.specs.Lists.{overlay};
 ghost use Rattle.grid.specs.Pieces.{row};
-ghost use Rattle.channel.specs.Channel.{width, rows};
-ghost use Rattle.channel.specs.Spans.{firsts, lasts};
-ghost use Rattle.boardfile.specs.Encode.{encode};
-ghost use Rattle.drawing.specs.Draw.{drawColumn, drawSpan};
+ghost use Rattle.channel.specs.Channel.{rows, hasPin};
+ghost use Rattle.channel.specs.Spans.{SpansFound};
+ghost use Rattle.drawing.specs.Draw.{drawColumn, drawSpan, drawNet};
 ghost use Rattle.drawing.specs.Putting.{Room, Put};
-ghost use Rattle.drawing.specs.Code.{Tracked, StandsIn, hasPin, netPieces, drawnBy};
+ghost use Rattle.drawing.specs.Code.{StandsIn, drawnBy, Drawable, BoardDrawn};
+use channel::Spans;
 use grid::Column;
+use grid::HIGHEST_NET;
+use grid::NET_SLOTS;
 use grid::Net;
 use grid::Piece;
 use grid::Row;
@@ -55,8 +56,14 @@ fn draw_column(
     t: u32,
     c: Column,
 ) -> u32
-    requires { ⌜ (t ≤ 511) × (1 ≤ c .0) × (c .0 ≤ length (now top)) × (length (now bot) ≡ length (now top)) × Room (now board) count (drawColumn (rows (now top) (now bot)) t (k .0) (n .0) (c .0)) ⌝ }
-    ensures { λ r. ⌜ Put (now (board .entry)) (now (board .exit)) count r (drawColumn (rows (now (top .entry)) (now (bot .entry))) t (k .0) (n .0) (c .0)) ⌝ }
+    requires { ⌜ (t ≤ 511)
+        × (1 ≤ c .0)
+        × (c .0 ≤ length (now top))
+        × (length (now bot) ≡ length (now top))
+        × Room (now board) count (drawColumn (rows (now top) (now bot)) t (k .0) (n .0) (c .0)) ⌝ }
+    ensures { λ r.
+        ⌜ Put (now (board .entry)) (now (board .exit)) count r
+        (drawColumn (rows (now (top .entry)) (now (bot .entry))) t (k .0) (n .0) (c .0)) ⌝ }
 {
     let i = c.0 as usize - 1;
     let low = end_row(bot[i], n, 0, k);
@@ -92,8 +99,12 @@ fn draw_span(
     first: Column,
     last: Column,
 ) -> u32
-    requires { ⌜ (t ≤ 511) × StandsIn (rows (now top) (now bot)) (n .0) (first .0) (last .0) × Room (now board) count (drawSpan (rows (now top) (now bot)) t (k .0) (n .0)) ⌝ }
-    ensures { λ r. ⌜ Put (now (board .entry)) (now (board .exit)) count r (drawSpan (rows (now (top .entry)) (now (bot .entry))) t (k .0) (n .0)) ⌝ }
+    requires { ⌜ (t ≤ 511)
+        × StandsIn (rows (now top) (now bot)) (n .0) (first .0) (last .0)
+        × Room (now board) count (drawSpan (rows (now top) (now bot)) t (k .0) (n .0)) ⌝ }
+    ensures { λ r.
+        ⌜ Put (now (board .entry)) (now (board .exit)) count r
+        (drawSpan (rows (now (top .entry)) (now (bot .entry))) t (k .0) (n .0)) ⌝ }
 {
     let mut drawn = put(
         board,
@@ -126,8 +137,12 @@ fn draw_net(
     first: Column,
     last: Column,
 ) -> u32
-    requires { ⌜ (t ≤ 511) × StandsIn (rows (now top) (now bot)) (n .0) (first .0) (last .0) × Room (now board) count (netPieces (rows (now top) (now bot)) t (k .0) (n .0)) ⌝ }
-    ensures { λ r. ⌜ Put (now (board .entry)) (now (board .exit)) count r (netPieces (rows (now (top .entry)) (now (bot .entry))) t (k .0) (n .0)) ⌝ }
+    requires { ⌜ (t ≤ 511)
+        × StandsIn (rows (now top) (now bot)) (n .0) (first .0) (last .0)
+        × Room (now board) count (drawNet (rows (now top) (now bot)) t (k .0) (n .0)) ⌝ }
+    ensures { λ r.
+        ⌜ Put (now (board .entry)) (now (board .exit)) count r
+        (drawNet (rows (now (top .entry)) (now (bot .entry))) t (k .0) (n .0)) ⌝ }
 {
     if first.0 < last.0 {
         return draw_span(board, count, top, bot, n, k, t, first, last);
@@ -143,37 +158,34 @@ fn draw_net(
     )
 }
 
-// Draws a filled channel into a lent board of at least 10,240 bytes, header first, nets in rising number; the remainder stays. Answers the
-// number of pieces. `first` and `last` are the nets' columns, `tracks` their tracks, t the number of tracks.
+// Draws a filled channel into a lent board that has room for it, header first, nets in rising number; the remainder
+// stays. Answers the number of pieces. t is the number of tracks.
 pub fn draw_board(
     top: &[u32],
     bot: &[u32],
-    first: &[u32; 512],
-    last: &[u32; 512],
-    tracks: &[u32; 512],
+    spans: Spans,
+    tracks: [Track; NET_SLOTS],
     t: u32,
     board: &mut [u8],
 ) -> u32
-    requires { ⌜ Tracked (rows (now top) (now bot)) (now tracks) t × (now first ≡ firsts (rows (now top) (now bot))) × (now last ≡ lasts (rows (now top) (now bot))) × (10240 ≤ length (now board)) ⌝ }
+    requires { ⌜ Drawable (rows (now top) (now bot)) tracks t (now board)
+        × SpansFound (rows (now top) (now bot)) spans ⌝ }
     ensures { λ r.
-        ⌜ (r ≡ length (drawnBy (rows (now (top .entry)) (now (bot .entry))) (now (tracks .entry)) t .pieces)) × (now (board .exit) ≡ overlay (encode (width (rows (now (top .entry)) (now (bot .entry)))) (drawnBy (rows (now (top .entry)) (now (bot .entry))) (now (tracks .entry)) t)) (now (board .entry))) ⌝ }
+        ⌜ BoardDrawn (rows (now (top .entry)) (now (bot .entry)))
+        (drawnBy (rows (now (top .entry)) (now (bot .entry))) tracks t)
+        (now (board .entry)) r (now (board .exit)) ⌝ }
 {
+    let firsts = spans.first;
+    let lasts = spans.last;
     let mut count: u32 = 0;
     let mut n: u32 = 1;
-    while n < 512 {
+    while n <= HIGHEST_NET {
         let i = n as usize;
-        if first[i] != 0 {
-            count = draw_net(
-                board,
-                count,
-                top,
-                bot,
-                Net(n),
-                Track(tracks[i]),
-                t,
-                Column(first[i]),
-                Column(last[i]),
-            );
+        let first = firsts[i];
+        if first.0 != 0 {
+            let last = lasts[i];
+            let k = tracks[i];
+            count = draw_net(board, count, top, bot, Net(n), k, t, first, last);
         }
         n += 1;
     }

@@ -2,20 +2,20 @@
 use Prim.Native.Nat.{ℕ, zero, suc, _+_}
 use mathlib.Core.Path.{_≡_, refl}
 use mathlib.Core.List.{List, [], _∷_, _++_, map}
-use mathlib.Core.Bool.{Bool, true, false, cond, _&&_}
-use mathlib.Core.Option.{Option, none, some}
-use lib.ListN.{length, take, drop, set}
+use mathlib.Core.Bool.{Bool, true, false, _&&_}
+use lib.ListN.{take, drop, set}
 use lib.Dec.{eqb}
 use Rattle.lists.specs.Lists.{keep, each, anyOf, allOf, from, headOr, lastOr, greatest, least, at}
 use Rattle.lists.specs.Bytes.{bytes, digitsOf}
-use Rattle.refusal.specs.Refusals.{Told, refuseIf, refuseAtFirst, _or-else_, answered, filledUnless}
+use Rattle.refusal.specs.Refusals.{refuseIf, refuseAtFirst, _or-else_, answered, filledUnless}
 use Rattle.refusal.specs.Trays.{shortTray, scratchTray}
 use Rattle.grid.specs.declared.Piece.{Piece}
 use Rattle.grid.specs.declared.Piece.the-variants.{Trunk, Branch}
-use Rattle.grid.specs.Pieces.{column, track, row, kindOf, left, right, low, high, Layout}
+use Rattle.grid.specs.Pieces.{column, track, row, kindOf, left, right, low, high}
 use Rattle.grid.specs.Words.{lineOf, fromOf, toOf, fieldsRight, makePiece}
-use Rattle.grid.specs.Touching.{meet, covers, touches}
-use Rattle.channel.specs.Channel.{Channel, width, isNet, pinColumns, firstColumn, lastColumn, pinCount, nets, hasSpan, spanning}
+use Rattle.grid.specs.Touching.{kindsMeet, pinMeets, covers, touches}
+use Rattle.channel.specs.Channel.{width, isNet, holdsNet, pinColumns, firstColumn, lastColumn, pinCount}
+use Rattle.channel.specs.Channel.{nets, hasSpan, spanning}
 use Rattle.channel.specs.Spans.{starting}
 use Rattle.channel.specs.Density.{spansOver, spansOf, density}
 use Rattle.channel.specs.Constraints.{above, drops, depth, chain}
@@ -28,16 +28,20 @@ use Rattle.leftedge.specs.Fill.{scan, orElse, fillFrom, fillItems}
 use Rattle.leftedge.specs.Walk.{firstDrop, fromVisit, walk, ringOf, ringNumbers}
 use Rattle.leftedge.specs.Nets.{fillOrder, netItems, fill, recordOf, records}
 use Rattle.boardfile.specs.Encode.{word, header, fields, pieceWord, encode}
-use Rattle.boardfile.specs.Open.{wordAt, fileWidth, fileTracks, fileCount, fileSpare, wordKind, wordLine, wordFrom, wordTo, wordRight, pieceOf, torn, badField, openRefusal, piecesFrom, fileLayout}
+use Rattle.boardfile.specs.Open.{wordAt, fileWidth, fileTracks, fileCount, fileSpare, headerOf, fieldsOf, wordRight}
+use Rattle.boardfile.specs.Open.{pieceOf, torn, badField, openRefusal, piecesFrom, fileLayout}
 use Rattle.judge.specs.Elements.{elements, elementsTouch}
 use Rattle.judge.specs.Classes.{marksOf, marksMet, remark, addElement, classesFrom, classes}
 use Rattle.judge.specs.Finding.{marks, pins, firstOfNet, shorts, opens, floating, faultAtFirst, finding}
 use Rattle.judge.specs.Answers.{wrongBoard, judgeRefusal, judged, judgeAnswer, faultNumber, faultPlace, judgeTold}
 use Rattle.blanks.specs.Stock.{stock, smallestFor, noBlank}
 use Rattle.drawing.specs.Draw.{branchIn, drawColumn, drawSpan, drawStraight, drawNet, draw}
-use Rattle.router.specs.Route.{ringShown, tangled, layoutDrawn, recordsMade, routeTrays, routeRefusal, routeAnswer, filledUnder7, ringAfter, routeTold}
-use Rattle.report.specs.Lines.{line, refusedLine, ringLines, refusalLines, boardLine, boundLine, netLine, endLine, goodLine}
-use Rattle.report.specs.Programs.{withinLimit, ofPinList, ofFilled, listing, listingOutput, boardOutput, judgeLines, judgeOutput}
+use Rattle.router.specs.Route.{ringShown, tangled, layoutDrawn, recordsMade, routeTrays, routeRefusal, routeAnswer}
+use Rattle.router.specs.Route.{filledUnder7, ringAfter, routeTold}
+use Rattle.text.specs.Lines.{lineOf as textLine}
+use Rattle.report.specs.Lines.{refusedLine, toldLine, ringLines, boardLine, boundLine, netLine, endLine}
+use Rattle.programs.specs.Programs.{withinLimit, ofPinList, ofFilled, listing, judgeLines}
+use Rattle.programs.specs.Programs.{listingOutput, boardOutput, judgeOutput}
 
 -- two lists of numbers are equal, as a test
 abbrev same : List ℕ → List ℕ → Bool
@@ -94,7 +98,9 @@ abbrev judgedWith : List ℕ → (List Piece → List Piece) → List ℕ
 judgedWith text change =
     let ch = textChannel text in
     let l = layoutDrawn ch (fill ch) in
-    let told = judgeTold (judgeAnswer ch (encode (width ch) (record { tracks = l .tracks; pieces = change (l .pieces) })) scratchTray) in
+    let told =
+    judgeTold (judgeAnswer ch (encode (width ch) (record { tracks = l .tracks; pieces = change (l .pieces) }))
+    scratchTray) in
     told .number ∷ told .values
 
 -- the pieces without the one in place i, from 1
@@ -116,7 +122,7 @@ pub starred :
     ∷ same (pairs textD) (2 ∷ 2 ∷ 3 ∷ 3 ∷ [])
     ∷ same (tracks textE) (1 ∷ 1 ∷ 2 ∷ [])
     ∷ same (routed textF) (0 ∷ 0 ∷ 0 ∷ [])
-    ∷ same (routed textG) (0 ∷ 0 ∷ 1 ∷ [])
+    ∷ same (routed textG) (0 ∷ 1 ∷ 0 ∷ [])
     ∷ same (listingOutput textG) (bytes "BOARD 1 0 8\nBOUND 0 0\nNET 5 1 1 0\nEND 1\n")
     ∷ same (judgedWith textA (without 8)) (12 ∷ 6 ∷ [])
     ∷ same (judgedWith textA (λ ps. set ps 3 (Branch (column 2) (row 1) (row 3)))) (11 ∷ 3 ∷ [])
@@ -124,15 +130,22 @@ pub starred :
     ∷ [])
     ≡ true
 unfolding
-    keep each anyOf allOf from headOr lastOr greatest least at bytes digitsOf refuseIf refuseAtFirst _or-else_ answered filledUnless shortTray
-    kindOf left right low high lineOf fromOf toOf fieldsRight makePiece meet covers touches
-    isNet pinColumns firstColumn lastColumn pinCount nets hasSpan spanning spansOver spansOf density above drops depth chain
+    keep each anyOf allOf from headOr lastOr greatest least at bytes digitsOf refuseIf refuseAtFirst _or-else_ answered
+    filledUnless shortTray
+    kindOf left right low high lineOf fromOf toOf fieldsRight makePiece kindsMeet pinMeets covers touches
+    isNet holdsNet pinColumns firstColumn lastColumn pinCount nets hasSpan spanning
+    spansOver spansOf density above drops depth chain
     tooWide uneven highNet lonePin rowsRefusal boundsAnswer boundsTold columnOf rowOf netOf pinTouches
     afterNumber lineStep topStep botStep step atEnd readFrom readText garbledRefusal channelOf textRefusal
-    isPlaced trackOf fits clearBelow scan orElse fillFrom fillItems firstDrop fromVisit walk ringOf ringNumbers starting fillOrder netItems fill recordOf records
-    word header fields pieceWord encode wordAt fileWidth fileTracks fileCount fileSpare wordKind wordLine wordFrom wordTo wordRight pieceOf torn badField openRefusal piecesFrom fileLayout
-    elements elementsTouch marksOf marksMet remark addElement classesFrom classes marks pins firstOfNet shorts opens floating faultAtFirst finding
+    isPlaced trackOf fits clearBelow scan orElse fillFrom fillItems firstDrop fromVisit walk ringOf ringNumbers starting
+    fillOrder netItems fill recordOf records
+    word header fields pieceWord encode wordAt fileWidth fileTracks fileCount fileSpare headerOf fieldsOf wordRight
+    pieceOf torn badField openRefusal piecesFrom fileLayout
+    elements elementsTouch marksOf marksMet remark addElement classesFrom classes marks pins firstOfNet shorts opens
+    floating faultAtFirst finding
     wrongBoard judgeRefusal judged judgeAnswer faultNumber faultPlace judgeTold stock smallestFor noBlank
-    branchIn drawColumn drawSpan drawStraight drawNet draw ringShown tangled layoutDrawn recordsMade routeRefusal routeAnswer filledUnder7 ringAfter routeTold
-    line refusedLine ringLines refusalLines boardLine boundLine netLine endLine goodLine withinLimit ofPinList ofFilled listing listingOutput boardOutput judgeLines judgeOutput
+    branchIn drawColumn drawSpan drawStraight drawNet draw ringShown tangled layoutDrawn recordsMade routeRefusal
+    routeAnswer filledUnder7 ringAfter routeTold
+    textLine refusedLine toldLine ringLines boardLine boundLine netLine endLine
+    withinLimit ofPinList ofFilled listing listingOutput boardOutput judgeLines judgeOutput
 starred = refl

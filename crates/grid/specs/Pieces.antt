@@ -1,4 +1,5 @@
--- 01, "Wiring rule": a piece of copper, by its kind and by the box of grid points that it covers. Everything outside this file reads a piece through these.
+-- 01, "Wiring rule": a piece of copper, by its kind and by the box of grid points that it covers. Everything outside
+-- this file reads a piece through these.
 use Prim.Native.Nat.{ℕ, _+_, _≤_, _<_}
 use mathlib.Core.List.{List}
 use Rattle.grid.specs.declared.Piece.{Piece}

@@ -1,5 +1,8 @@
 // The grid of a board: its numbers, each with a type of its own so that a column is never taken where a track is due,
 // and the pieces of copper that lie on it.
+ghost use mathlib.Core.Path.{_≡_};
+ghost use Rattle.grid.specs.Touching.{kindsMeet, pinMeets};
+
 pub const WIDEST: usize = 512;
 
 pub const HIGHEST_NET: u32 = 511;
@@ -8,6 +11,13 @@ pub const HIGHEST_NET: u32 = 511;
 pub const NETS: usize = HIGHEST_NET as usize;
 
 pub const NET_SLOTS: usize = NETS + 1;
+
+// The kinds of copper, as the board file numbers them.
+pub const TRUNK: u32 = 0;
+
+pub const BRANCH: u32 = 1;
+
+pub const CONTACT: u32 = 2;
 
 pub struct Column(pub u32);
 
@@ -36,4 +46,18 @@ pub enum Piece {
         column: Column,
         track: Track,
     },
+}
+
+// Whether pieces of these kinds touch where they have a common point.
+pub fn kinds_meet(a: u32, b: u32) -> bool
+    ensures { λ r. ⌜ r ≡ kindsMeet a b ⌝ }
+{
+    (a == b) | ((a == CONTACT) | (b == CONTACT))
+}
+
+// Whether a pin touches a piece of this kind that covers its point.
+pub fn pin_meets(kind: u32) -> bool
+    ensures { λ r. ⌜ r ≡ pinMeets kind ⌝ }
+{
+    kind == BRANCH
 }

@@ -1,14 +1,13 @@
 -- 01, "Judge": the answer to rows and a board file, tangled channels included; "the judge skips 7".
 use Prim.Native.Nat.{ℕ}
 use mathlib.Core.List.{List, [], _∷_}
-use mathlib.Core.Bool.{Bool, not}
+use mathlib.Core.Bool.{not}
 use mathlib.Core.Option.{Option, none, some}
 use lib.Dec.{eqb}
 use Rattle.refusal.specs.declared.Refusal.{Refusal}
 use Rattle.refusal.specs.declared.Refusal.the-variants.{WrongBoard}
 use Rattle.refusal.specs.Refusals.{Told, toldRefusal, toldValues, refuseIf, _or-else_, answered}
 use Rattle.refusal.specs.Trays.{scratchTray, shortTray}
-use Rattle.grid.specs.Pieces.{Layout}
 use Rattle.channel.specs.Channel.{Channel, width}
 use Rattle.channel.specs.Answers.{rowsRefusal}
 use Rattle.boardfile.specs.Open.{openRefusal, fileWidth, fileTracks, fileLayout}
@@ -25,7 +24,8 @@ wrongBoard ch board = refuseIf (not (eqb (fileWidth board) (width ch))) (WrongBo
 -- 1, 3 to 6, 8 to 10, where scratch of this length is lent
 unfoldable pub judgeRefusal : Channel → List ℕ → ℕ → Option Refusal
 judgeRefusal ch board scratch =
-    shortTray (record { lent = scratch; needed = scratchTray } ∷ []) or-else rowsRefusal ch or-else openRefusal board or-else wrongBoard ch board
+    shortTray (record { lent = scratch; needed = scratchTray } ∷ []) or-else rowsRefusal ch or-else openRefusal board
+    or-else wrongBoard ch board
 
 unfoldable pub judged : ℕ → Option Fault → JudgeAnswer
 judged tracks none = Good tracks

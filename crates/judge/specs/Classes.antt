@@ -1,5 +1,5 @@
--- Classes of elements that are joined: each element has a mark, and two have the same mark exactly if a chain of touches links them.
--- The elements are added one at a time, so nothing is searched twice.
+-- Classes of elements that are joined: each element has a mark, and two have the same mark exactly if a chain of
+-- touches links them. The elements are added one at a time, so nothing is searched twice.
 use Prim.Native.Nat.{ℕ, suc}
 use mathlib.Core.List.{List, [], _∷_, _++_, map}
 use mathlib.Core.Bool.{Bool, cond}
@@ -21,7 +21,8 @@ marksMet touch x ms = marksOf (keep (λ m. touch (m .element) x) ms)
 unfoldable pub remark : {A : Type 0} → List ℕ → ℕ → List (Marked A) → List (Marked A)
 remark met k ms = map (λ m. record { element = m .element; mark = cond (isIn (m .mark) met) k (m .mark) }) ms
 
--- one more element x: it takes the mark of the first element that it touches, or the new mark k, and so does every class that it touches
+-- one more element x: it takes the mark of the first element that it touches, or the new mark k, and so does every
+-- class that it touches
 unfoldable pub addElement : {A : Type 0} → (A → A → Bool) → ℕ → A → List (Marked A) → List (Marked A)
 addElement touch k x ms =
     let met = marksMet touch x ms in

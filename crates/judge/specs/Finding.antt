@@ -1,7 +1,7 @@
 -- 01, refusals 11 to 13: what the judge finds in a layout, computed from the classes of its elements.
 use Prim.Native.Nat.{ℕ, _+_}
 use mathlib.Core.List.{List, [], _∷_}
-use mathlib.Core.Bool.{Bool, _&&_, not}
+use mathlib.Core.Bool.{_&&_, not}
 use mathlib.Core.Option.{Option, none, some}
 use lib.ListN.{length}
 use lib.Dec.{ltb, eqb}
@@ -28,7 +28,8 @@ firstOfNet ch p = headOr 0 (keep (λ q. eqb (at (positions ch) q) (at (positions
 -- 11: the pins "joined to an earlier pin of another net", by the marks ms
 unfoldable pub shorts : Channel → List ℕ → List ℕ
 shorts ch ms =
-    keep (λ p. anyOf (λ q. ltb q p && (not (eqb (at (positions ch) q) (at (positions ch) p)) && eqb (at ms q) (at ms p))) (pins ch)) (pins ch)
+    keep (λ p. anyOf (λ q. ltb q p
+    && (not (eqb (at (positions ch) q) (at (positions ch) p)) && eqb (at ms q) (at ms p))) (pins ch)) (pins ch)
 
 -- 12: the pins "not joined to its net's first pin"
 unfoldable pub opens : Channel → List ℕ → List ℕ
@@ -36,7 +37,8 @@ opens ch ms = keep (λ p. not (eqb (at ms (firstOfNet ch p)) (at ms p))) (pins c
 
 -- 13: the pieces "joined to no pin"
 unfoldable pub floating : Channel → Layout → List ℕ → List ℕ
-floating ch l ms = keep (λ i. not (anyOf (λ q. eqb (at ms q) (at ms (width ch + width ch + i))) (pins ch))) (upTo (length (l .pieces)))
+floating ch l ms =
+    keep (λ i. not (anyOf (λ q. eqb (at ms q) (at ms (width ch + width ch + i))) (pins ch))) (upTo (length (l .pieces)))
 
 -- the fault at the first of the places, else what is found next
 unfoldable pub faultAtFirst : (ℕ → Fault) → List ℕ → Option Fault → Option Fault

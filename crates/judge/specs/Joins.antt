@@ -1,8 +1,10 @@
--- One more element is joined to those that it touches, one place at a time: what that leaves as marks is what `addElement` gives them.
+-- One more element is joined to those that it touches, one place at a time: what that leaves as marks is what
+-- `addElement` gives them.
 use Prim.Native.Nat.{ℕ, zero, suc, _<_}
 use native.Mathlib.Omega.{arith}
 use mathlib.Core.Path.{_≡_, refl, sym, _∙_, ap, ap₂, subst}
-use mathlib.Core.List.{List, [], _∷_, _++_, map, map-map, append-assoc, append-nil, List·Memᴰ, List·Memᴰ·head, List·Memᴰ·tail, List·Memᴰ·append-cases, List·Memᴰ·eq-of-singleton, List·Memᴰ·not-nil, Memᴰ·cast}
+use mathlib.Core.List.{List, [], _∷_, _++_, map, map-map, append-assoc, append-nil, List·Memᴰ, List·Memᴰ·head}
+use mathlib.Core.List.{List·Memᴰ·tail, List·Memᴰ·append-cases, List·Memᴰ·eq-of-singleton, List·Memᴰ·not-nil, Memᴰ·cast}
 use mathlib.Core.Bool.{Bool, true, false, cond, _||_}
 use mathlib.Core.Logic.{⊎-elim}
 use lib.ListN.{length, getD, take}
@@ -25,15 +27,19 @@ pub record Marking : Type 0 where
 unfoldable pub joinPlace : Marking → ℕ → Marking
 joinPlace s i =
     let here = getD (s .marks) i 0 in
-    cond (eqb (s .mark) 0) (record { mark = here; marks = s .marks }) (record { mark = s .mark; marks = relabelled here (s .mark) (s .marks) })
+    cond (eqb (s .mark) 0) (record { mark = here; marks = s .marks })
+    (record { mark = s .mark; marks = relabelled here (s .mark) (s .marks) })
 
 unfoldable pub joinPlaces : Marking → List ℕ → Marking
 joinPlaces s [] = s
 joinPlaces s (i ∷ is) = joinPlaces (joinPlace s i) is
 
--- what the code keeps: m is the mark of the new element, and the marks are the first n numbers of a buffer. Joined to these places they are r and those of s′
+-- what the code keeps: m is the mark of the new element, and the marks are the first n numbers of a buffer. Joined to
+-- these places they are r and those of s′
 abbrev pub JoinedTo : ℕ → List ℕ → ℕ → List ℕ → ℕ → List ℕ → Type 0
-JoinedTo n s m places r s′ = _≡_ {A = Marking} (record { mark = r; marks = take n s′ }) (joinPlaces (record { mark = m; marks = take n s }) places)
+JoinedTo n s m places r s′ =
+    _≡_ {A = Marking} (record { mark = r; marks = take n s′ })
+    (joinPlaces (record { mark = m; marks = take n s }) places)
 
 pub join-places-append : (s : Marking) (is js : List ℕ) → joinPlaces s (is ++ js) ≡ joinPlaces (joinPlaces s is) js
 unfolding joinPlaces
@@ -103,8 +109,11 @@ more-raised h o m met first =
   where
     other : isIn m met ≡ false → (c : Bool) → isIn o met ≡ c → cond (eqb m (cond c h o)) h m ≡ cond (eqb m o) h m
     other e true q =
-        let noth : eqb m h ≡ false = fails→false (eqb m h) (λ t. false→fails (isIn m met) e (subst (λ (n : ℕ). T (isIn n met)) (sym (eqb→eq m h t)) first)) in
-        let noto : eqb m o ≡ false = fails→false (eqb m o) (λ t. false→fails (isIn m met) e (subst (λ (n : ℕ). T (isIn n met)) (sym (eqb→eq m o t)) (true→T (isIn o met) q))) in
+        let noth : eqb m h ≡ false = fails→false (eqb m h)
+        (λ t. false→fails (isIn m met) e (subst (λ (n : ℕ). T (isIn n met)) (sym (eqb→eq m h t)) first)) in
+        let noto : eqb m o ≡ false = fails→false (eqb m o)
+        (λ t. false→fails (isIn m met) e (subst (λ (n : ℕ). T (isIn n met)) (sym (eqb→eq m o t))
+        (true→T (isIn o met) q))) in
         rw (noth, noto)
     other e false q = refl
 
@@ -121,7 +130,8 @@ module _ (ms : List ℕ) (positive : (m : ℕ) → List·Memᴰ m ms → 0 < m) 
   Positive met = (m : ℕ) → List·Memᴰ m met → 0 < m
 
   -- the element at place i is touched too
-  join-reached : (met : List ℕ) → Positive met → (i : ℕ) → i < length ms → joinPlace (reached met ms) i ≡ reached (met ++ (getD ms i 0 ∷ [])) ms
+  join-reached : (met : List ℕ) → Positive met → (i : ℕ) → i < length ms
+      → joinPlace (reached met ms) i ≡ reached (met ++ (getD ms i 0 ∷ [])) ms
   unfolding joinPlace headOr relabelled Positive
   join-reached [] pos i h =
       let o = getD ms i 0 in
@@ -131,18 +141,23 @@ module _ (ms : List ℕ) (positive : (m : ℕ) → List·Memᴰ m ms → 0 < m) 
   join-reached (k ∷ met) pos i h =
       let o = getD ms i 0 in
       let all = k ∷ met in
-      let some-mark : eqb k 0 ≡ false = fails→false (eqb k 0) (λ t. let z = eqb→eq k 0 t in let p = pos k (List·Memᴰ·head refl) in absurd (omega arith)) in
+      let some-mark : eqb k 0 ≡ false = fails→false (eqb k 0)
+      (λ t. let z = eqb→eq k 0 t in let p = pos k (List·Memᴰ·head refl) in absurd (omega arith)) in
       let here : getD (map (raised all k) ms) i 0 ≡ raised all k o = getD-map (raised all k) ms i h in
       rw (some-mark, here)
       (ap (λ (l : List ℕ). let s : Marking = record { mark = k; marks = l } in s)
-      (map-map (λ (m : ℕ). cond (eqb m (raised all k o)) k m) (raised all k) ms ∙ map-same (λ m. cond (eqb (raised all k m) (raised all k o)) k (raised all k m)) (raised (all ++ (o ∷ [])) k) ms (λ m. more-raised k o m all (member→isIn (List·Memᴰ·head refl)))))
+      (map-map (λ (m : ℕ). cond (eqb m (raised all k o)) k m) (raised all k) ms
+      ∙ map-same (λ m. cond (eqb (raised all k m) (raised all k o)) k (raised all k m)) (raised (all ++ (o ∷ [])) k) ms
+      (λ m. more-raised k o m all (member→isIn (List·Memᴰ·head refl)))))
 
   positive-more : (met : List ℕ) → Positive met → (i : ℕ) → i < length ms → Positive (met ++ (getD ms i 0 ∷ []))
   unfolding Positive
   positive-more met pos i h m mem =
-      ⊎-elim (λ a. pos m a) (λ b. positive m (Memᴰ·cast (List·Memᴰ·eq-of-singleton b) (getD-member ms i h))) (List·Memᴰ·append-cases met mem)
+      ⊎-elim (λ a. pos m a) (λ b. positive m (Memᴰ·cast (List·Memᴰ·eq-of-singleton b) (getD-member ms i h)))
+      (List·Memᴰ·append-cases met mem)
 
-  joins-reached : (met is : List ℕ) → Positive met → ((i : ℕ) → List·Memᴰ i is → i < length ms) → joinPlaces (reached met ms) is ≡ reached (met ++ map (λ i. getD ms i 0) is) ms
+  joins-reached : (met is : List ℕ) → Positive met → ((i : ℕ) → List·Memᴰ i is → i < length ms)
+      → joinPlaces (reached met ms) is ≡ reached (met ++ map (λ i. getD ms i 0) is) ms
   unfolding joinPlaces
   joins-reached met [] pos h = ap (λ (l : List ℕ). reached l ms) (sym (append-nil met))
   joins-reached met (i ∷ is) pos h =
@@ -152,7 +167,9 @@ module _ (ms : List ℕ) (positive : (m : ℕ) → List·Memᴰ m ms → 0 < m) 
       ∙ ap (λ (l : List ℕ). reached l ms) (append-assoc met (getD ms i 0 ∷ []) (map (λ j. getD ms j 0) is))
 
   -- joined to these places, from no mark on
-  pub joined-places : (is : List ℕ) → ((i : ℕ) → List·Memᴰ i is → i < length ms) → joinPlaces (record { mark = 0; marks = ms }) is ≡ reached (map (λ i. getD ms i 0) is) ms
+  pub joined-places : (is : List ℕ) → ((i : ℕ) → List·Memᴰ i is → i < length ms)
+      → joinPlaces (record { mark = 0; marks = ms }) is ≡ reached (map (λ i. getD ms i 0) is) ms
   unfolding Positive
   joined-places is h =
-      ap (λ (s : Marking). joinPlaces s is) (reached-none ms) ∙ joins-reached [] is (λ m mem. absurd (List·Memᴰ·not-nil mem)) h
+      ap (λ (s : Marking). joinPlaces s is) (reached-none ms)
+      ∙ joins-reached [] is (λ m mem. absurd (List·Memᴰ·not-nil mem)) h

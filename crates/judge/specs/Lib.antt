@@ -23,3 +23,4 @@ pub mod Buffers
 pub mod MarkSteps
 pub mod FaultSteps
 pub mod JudgeSteps
+pub mod ToldLaws

@@ -9,13 +9,12 @@ use lib.Seq.{take-suc-set, take-at, length-take-le}
 use lib.Dec.{eqb}
 use Rattle.lists.specs.Lists.{from}
 use Rattle.lists.specs.Places.{length-from}
-use Rattle.grid.specs.declared.Piece.{Piece}
-use Rattle.grid.specs.declared.Piece.the-variants.{Trunk, Branch, Contact}
-use Rattle.grid.specs.Pieces.{kindOf, branchKind, left, OnGrid}
+use Rattle.grid.specs.Pieces.{OnGrid}
+use Rattle.grid.specs.TouchLaws.{on-grid→boxed}
 use Rattle.channel.specs.Channel.{Channel, width}
 use Rattle.boardfile.specs.Open.{pieceOf}
 use Rattle.judge.specs.declared.boxes.Cover.{Cover}
-use Rattle.judge.specs.Code.{boxOf, boxesTouch}
+use Rattle.judge.specs.Code.{coverOf, boxOf, boxesTouch}
 use Rattle.judge.specs.Finding.{marks}
 use Rattle.judge.specs.Joins.{joinPlaces, JoinedTo}
 use Rattle.judge.specs.Touched.{touched}
@@ -34,19 +33,27 @@ module _ (ch : Channel) (t : ℕ) (words : List ℕ) where
   pub marked-none : (s : List ℕ) → MarkedTo 0 (from 1 places ++ drop places s)
   marked-none s =
       let none : places + 0 ≡ places = omega arith in
-      ap (λ (k : ℕ). take k (from 1 places ++ drop places s)) none ∙ take-at (from 1 places) (drop places s) places (length-from 1 places) ∙ sym (marks-no-word ch t)
+      ap (λ (k : ℕ). take k (from 1 places ++ drop places s)) none
+      ∙ take-at (from 1 places) (drop places s) places (length-from 1 places)
+      ∙ sym (marks-no-word ch t)
 
   -- piece j is joined to the pins and the pieces that it touches, and gets its mark
-  pub marked-next : (j : ℕ) (s s₁ s₂ : List ℕ) (r₁ r₂ : ℕ) → j < length words → places + j < length s₂ → OnGrid (width ch) t (pieceOf (getD words j 0)) → MarkedTo j s
-      → JoinedTo (places + j) s 0 (pinPlaces ch t (boxOf (getD words j 0))) r₁ s₁ → JoinedTo (places + j) s₁ r₁ (touched (λ u. boxesTouch (boxOf u) (boxOf (getD words j 0))) places (take j words)) r₂ s₂
+  pub marked-next : (j : ℕ) (s s₁ s₂ : List ℕ) (r₁ r₂ : ℕ) → j < length words → places + j < length s₂
+      → OnGrid (width ch) t (pieceOf (getD words j 0)) → MarkedTo j s
+      → JoinedTo (places + j) s 0 (pinPlaces ch t (boxOf (getD words j 0))) r₁ s₁
+      → JoinedTo (places + j) s₁ r₁
+      (touched (λ u. boxesTouch (boxOf u) (boxOf (getD words j 0))) places (take j words)) r₂ s₂
       → (v : ℕ) → v ≡ cond (eqb r₂ 0) (suc (places + j)) r₂ → MarkedTo (j + 1) (set s₂ (places + j) v)
   marked-next j s s₁ s₂ r₁ r₂ inside room grid marked pins pieces v e =
       let next : places + (j + 1) ≡ suc (places + j) = omega arith in
       ap (λ (k : ℕ). take k (set s₂ (places + j) v)) next
       ∙ take-suc-set s₂ (places + j) v room
       ∙ ap (λ (k : ℕ). take (places + j) s₂ ++ (k ∷ [])) e
-      ∙ ap (completed (suc (places + j))) (join-both (places + j) s s₁ s₂ 0 r₁ r₂ (pinPlaces ch t box) (touched (λ u. boxesTouch (boxOf u) box) places (take j words)) pins pieces)
-      ∙ ap₂ (λ (k : ℕ) (l : List ℕ). completed (suc (places + k)) (joinPlaces (record { mark = 0; marks = l }) all)) (sym (length-take-le j words (omega arith))) marked
+      ∙ ap (completed (suc (places + j)))
+      (join-both (places + j) s s₁ s₂ 0 r₁ r₂ (pinPlaces ch t box)
+      (touched (λ u. boxesTouch (boxOf u) box) places (take j words)) pins pieces)
+      ∙ ap₂ (λ (k : ℕ) (l : List ℕ). completed (suc (places + k)) (joinPlaces (record { mark = 0; marks = l }) all))
+      (sym (length-take-le j words (omega arith))) marked
       ∙ sym (marks-next-word ch t (take j words) (getD words j 0) grid)
       ∙ ap (λ (l : List ℕ). marks ch (wordsLayout t l)) (sym (take-next words j inside))
     where
@@ -56,12 +63,7 @@ module _ (ch : Channel) (t : ℕ) (words : List ℕ) where
       all : List ℕ
       all = pinPlaces ch t box ++ touched (λ u. boxesTouch (boxOf u) box) places (take j words)
 
--- the column of a branch on the grid
-pub branch-column : (w t v : ℕ) → OnGrid w t (pieceOf v) → boxOf v .kind ≡ branchKind → (1 ≤ boxOf v .left) × (boxOf v .left ≤ w)
-unfolding boxOf kindOf left OnGrid
-branch-column w t v = go (pieceOf v)
-  where
-    go : (p : Piece) → OnGrid w t p → kindOf p ≡ branchKind → (1 ≤ left p) × (left p ≤ w)
-    go (Trunk k a b) g e = absurd (omega arith)
-    go (Branch c a b) g e = (g .0, g .1)
-    go (Contact c k) g e = (g .0, g .1)
+-- the first column of a piece on the grid
+pub box-column : (w t v : ℕ) → OnGrid w t (pieceOf v) → (1 ≤ boxOf v .left .0) × (boxOf v .left .0 ≤ w)
+unfolding coverOf boxOf
+box-column w t v g = let b = on-grid→boxed t (pieceOf v) g in omega arith

@@ -18,12 +18,15 @@ use Rattle.judge.specs.Finding.{pins}
 -- the two rows of positions
 pub pinAt-top : (ch : Channel) (p : ℕ) → p ≤ width ch → pinAt ch p ≡ top p
 unfolding pinAt
-pinAt-top ch p h = ap (λ (b : Bool). cond b (top p) (bot (p - width ch))) (T→true (leb p (width ch)) (le→leb p (width ch) h))
+pinAt-top ch p h =
+    ap (λ (b : Bool). cond b (top p) (bot (p - width ch))) (T→true (leb p (width ch)) (le→leb p (width ch) h))
 
 pub pinAt-bot : (ch : Channel) (c : ℕ) → 0 < c → pinAt ch (width ch + c) ≡ bot c
 unfolding pinAt
 pinAt-bot ch c h =
-    ap (λ (b : Bool). cond b (top (width ch + c)) (bot ((width ch + c) - width ch))) (fails→false (leb (width ch + c) (width ch)) (λ t. let k = leb→le (width ch + c) (width ch) t in omega arith)) ∙ ap bot (omega arith)
+    ap (λ (b : Bool). cond b (top (width ch + c)) (bot ((width ch + c) - width ch)))
+    (fails→false (leb (width ch + c) (width ch)) (λ t. let k = leb→le (width ch + c) (width ch) t in omega arith))
+    ∙ ap bot (omega arith)
 
 -- the position of a pin place
 abbrev pub positionOf : Channel → Pin → ℕ
@@ -44,7 +47,8 @@ pinAt-position ch (top c) h = pinAt-top ch c (at-inside (ch .top) c h .1)
 pinAt-position ch (bot c) h = pinAt-bot ch c (at-inside (ch .bot) c h .0)
 
 -- a pin's position is 1 to 2w
-pub position-inside : (ch : Channel) → Escapes ch → (x : Pin) → IsPin ch x → (1 ≤ positionOf ch x) × (positionOf ch x ≤ width ch + width ch)
+pub position-inside : (ch : Channel) → Escapes ch → (x : Pin) → IsPin ch x
+    → (1 ≤ positionOf ch x) × (positionOf ch x ≤ width ch + width ch)
 unfolding netOf
 position-inside ch esc (top c) h = let r = at-inside (ch .top) c h in omega arith
 position-inside ch esc (bot c) h = let r = at-inside (ch .bot) c h in let e = esc .even in omega arith
@@ -61,20 +65,26 @@ position-net ch p = go (leb p (width ch)) refl
     on-top h = at-left (ch .top) (ch .bot) p h ∙ sym (ap (netOf ch) (pinAt-top ch p h))
 
     on-bot : (c : ℕ) → 0 < c → p ≡ width ch + c → at (positions ch) p ≡ netOf ch (pinAt ch p)
-    on-bot c h e = subst (λ (q : ℕ). at (positions ch) q ≡ netOf ch (pinAt ch q)) (sym e) (at-right (ch .top) (ch .bot) c h ∙ sym (ap (netOf ch) (pinAt-bot ch c h)))
+    on-bot c h e =
+        subst (λ (q : ℕ). at (positions ch) q ≡ netOf ch (pinAt ch q)) (sym e)
+        (at-right (ch .top) (ch .bot) c h ∙ sym (ap (netOf ch) (pinAt-bot ch c h)))
 
     go : (b : Bool) → leb p (width ch) ≡ b → at (positions ch) p ≡ netOf ch (pinAt ch p)
     go true e = on-top (leb→le p (width ch) (true→T _ e))
-    go false e = let above : p ≤ width ch → ⊥ = λ h. false→fails _ e (le→leb p (width ch) h) in on-bot (p - width ch) (omega arith) (omega arith)
+    go false e =
+        let above : p ≤ width ch → ⊥ = λ h. false→fails _ e (le→leb p (width ch) h) in
+        on-bot (p - width ch) (omega arith) (omega arith)
 
 -- `pins` holds the positions of the pins
 pub pins-member : (ch : Channel) {p : ℕ} → List·Memᴰ p (pins ch) → IsPin ch (pinAt ch p)
 unfolding pins
 pins-member ch {p} m =
-    subst (λ (n : ℕ). 0 < n) (position-net ch p) (ltb→lt 0 (at (positions ch) p) (keep-member (λ (p : ℕ). ltb 0 (at (positions ch) p)) (upTo (width ch + width ch)) m .1))
+    subst (λ (n : ℕ). 0 < n) (position-net ch p) (ltb→lt 0 (at (positions ch) p)
+    (keep-member (λ (p : ℕ). ltb 0 (at (positions ch) p)) (upTo (width ch + width ch)) m .1))
 
 pub in-pins : (ch : Channel) → Escapes ch → (p : ℕ) → IsPin ch (pinAt ch p) → List·Memᴰ p (pins ch)
 unfolding pins
 in-pins ch esc p h =
     let r = pin-inside ch esc p h in
-    kept (λ (p : ℕ). ltb 0 (at (positions ch) p)) (in-upTo (width ch + width ch) p (r .0) (r .1)) (lt→ltb 0 (at (positions ch) p) (subst (λ (n : ℕ). 0 < n) (sym (position-net ch p)) h))
+    kept (λ (p : ℕ). ltb 0 (at (positions ch) p)) (in-upTo (width ch + width ch) p (r .0) (r .1))
+    (lt→ltb 0 (at (positions ch) p) (subst (λ (n : ℕ). 0 < n) (sym (position-net ch p)) h))

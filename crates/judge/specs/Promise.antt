@@ -15,6 +15,8 @@ use Rattle.wiring.specs.Pins.{Pin, netOf, IsPin, pinAt}
 use Rattle.wiring.specs.Layouts.{Good, AllOnGrid, pin, copper, Joined}
 use Rattle.boardfile.specs.Open.{openRefusal, fileWidth, fileLayout}
 use Rattle.judge.specs.declared.Fault.the-variants.{Short, Open, Floating}
+use Rattle.judge.specs.declared.JudgeAnswer.{JudgeAnswer}
+use Rattle.judge.specs.declared.JudgeAnswer.the-variants.{Faulty}
 use Rattle.judge.specs.Finding.{finding}
 use Rattle.judge.specs.Answers.{judgeAnswer, judgeTold}
 
@@ -47,8 +49,16 @@ pub record FloatingPiece (ch : Channel) (l : Layout) (i : ℕ) : Type 0 where
 pub record JudgePromise (ch : Channel) (l : Layout) : Type 0 where
   pub passes : (finding ch l ≡ none) ↔ Good ch l
   pub short : (p : ℕ) → (finding ch l ≡ some (Short p)) ↔ Lowest (ShortPin ch l) p
-  pub opened : (p : ℕ) → (finding ch l ≡ some (Open p)) ↔ (((q : ℕ) → ShortPin ch l q → ⊥) × Lowest (OpenPin ch l) p)
+  pub opened : (p : ℕ) → (finding ch l ≡ some (Open p))
+      ↔ (((q : ℕ) → ShortPin ch l q → ⊥) × Lowest (OpenPin ch l) p)
   pub floating : (i : ℕ) → (finding ch l ≡ some (Floating i))
+      ↔ (((q : ℕ) → ShortPin ch l q → ⊥) × ((q : ℕ) → OpenPin ch l q → ⊥) × Lowest (FloatingPiece ch l) i)
+
+-- Of the answer to a board that is not refused: 11 before 12 before 13, each at its lowest place
+pub record FaultsAnswered (ch : Channel) (l : Layout) (r : JudgeAnswer) : Type 0 where
+  pub short : (p : ℕ) → (r ≡ Faulty (Short p)) ↔ Lowest (ShortPin ch l) p
+  pub opened : (p : ℕ) → (r ≡ Faulty (Open p)) ↔ (((q : ℕ) → ShortPin ch l q → ⊥) × Lowest (OpenPin ch l) p)
+  pub floating : (i : ℕ) → (r ≡ Faulty (Floating i))
       ↔ (((q : ℕ) → ShortPin ch l q → ⊥) × ((q : ℕ) → OpenPin ch l q → ⊥) × Lowest (FloatingPiece ch l) i)
 
 abbrev pub Demand2 : Type 0
@@ -64,4 +74,5 @@ pub record Passable (ch : Channel) (board : List ℕ) (scratch : ℕ) : Type 0 w
 
 -- on bytes: "The judge passes a board exactly when .."
 abbrev pub Demand2OnBytes : Type 0
-Demand2OnBytes = (ch : Channel) (board : List ℕ) (scratch : ℕ) → (judgeTold (judgeAnswer ch board scratch) .number ≡ 0) ↔ Passable ch board scratch
+Demand2OnBytes = (ch : Channel) (board : List ℕ) (scratch : ℕ)
+    → (judgeTold (judgeAnswer ch board scratch) .number ≡ 0) ↔ Passable ch board scratch

@@ -1,4 +1,5 @@
--- The three searches of the judge, place by place from 0: what each has seen so far, and that it finds the first of `shorts`, `opens` and `floating`.
+-- The three searches of the judge, place by place from 0: what each has seen so far, and that it finds the first of
+-- `shorts`, `opens` and `floating`.
 use Prim.Native.Nat.{ℕ, zero, suc, _+_, _≤_, _<_}
 use native.Mathlib.Omega.{arith}
 use native.Mathlib.Numerals.{add-one}
@@ -26,7 +27,11 @@ use Rattle.judge.specs.FindingLaws.{first-of-net}
 -- a test of the numbers 1 to n, where P is what it says, by places from 0
 module _ (f : ℕ → Bool) (n : ℕ) (P : ℕ → Type 0) (says : (i : ℕ) → i < n → T (f (suc i)) → P i) where
   first-at : (i : ℕ) → i < n → T (f (suc i)) → ((k : ℕ) → k < i → P k → ⊥) → firstOf f n ≡ i + 1
-  first-at i l t before = first-is f n (suc i) (record { holds = record { low = omega arith; high = omega arith; passes = t }; lowest = below }) ∙ sym (add-one i)
+  first-at i l t before =
+      first-is f n (suc i) (record {
+        holds = record { low = omega arith; high = omega arith; passes = t };
+        lowest = below;
+      }) ∙ sym (add-one i)
     where
       below : (q : ℕ) → Passing f 1 n q → suc i ≤ q
       below zero h = let low = h .low in absurd (omega arith)
@@ -95,7 +100,9 @@ module _ (ch : Channel) (ms : List ℕ) where
             before = omega arith;
             isPin = ltb→lt 0 (netAt i) (and-left (isPin (suc i)) (anyOf (shortTest (suc i)) (pins ch)) t);
             earlierIsPin = ltb→lt 0 (netAt q) (keep-member isPin (upTo places) m .1);
-            other = λ e. not-fails (eqb (netAt q) (netAt i)) (and-left differs alike rest) (subst (λ (n : ℕ). T (eqb (netAt q) n)) e (eqb-refl (netAt q)));
+            other =
+                λ e. not-fails (eqb (netAt q) (netAt i)) (and-left differs alike rest)
+                (subst (λ (n : ℕ). T (eqb (netAt q) n)) e (eqb-refl (netAt q)));
             same = eqb→eq (markAt q) (markAt i) (and-right differs alike rest);
           }
 
@@ -106,8 +113,12 @@ module _ (ch : Channel) (ms : List ℕ) where
       let b = s .before in
       let differs = not (eqb (netAt q) (netAt i)) in
       let alike = eqb (markAt q) (markAt i) in
-      let test = and-both (ltb (suc q) (suc i)) (differs && alike) (lt→ltb (suc q) (suc i) (omega arith)) (and-both differs alike (not-passes (eqb (netAt q) (netAt i)) (λ t. s .other (eqb→eq (netAt q) (netAt i) t))) (subst (λ (n : ℕ). T (eqb (markAt q) n)) (s .same) (eqb-refl (markAt q)))) in
-      and-both (isPin (suc i)) (anyOf (shortTest (suc i)) (pins ch)) (lt→ltb 0 (netAt i) (s .isPin)) (member→any (shortTest (suc i)) (kept isPin (in-upTo places (suc q) (omega arith) (omega arith)) (lt→ltb 0 (netAt q) (s .earlierIsPin))) test)
+      let test = and-both (ltb (suc q) (suc i)) (differs && alike) (lt→ltb (suc q) (suc i) (omega arith))
+      (and-both differs alike (not-passes (eqb (netAt q) (netAt i)) (λ t. s .other (eqb→eq (netAt q) (netAt i) t)))
+      (subst (λ (n : ℕ). T (eqb (markAt q) n)) (s .same) (eqb-refl (markAt q)))) in
+      and-both (isPin (suc i)) (anyOf (shortTest (suc i)) (pins ch)) (lt→ltb 0 (netAt i) (s .isPin))
+      (member→any (shortTest (suc i)) (kept isPin (in-upTo places (suc q) (omega arith) (omega arith))
+      (lt→ltb 0 (netAt q) (s .earlierIsPin))) test)
 
   -- the owner of a mark, among the pins before place i
   pub record Owner (owners : List ℕ) (i m : ℕ) : Type 0 where
@@ -126,17 +137,32 @@ module _ (ch : Channel) (ms : List ℕ) where
   owned-none owners h = record { settled = λ q l p. absurd (omega arith); owner = λ m out. absurd (out (h m)) }
 
   later-owner : (owners : List ℕ) (i m : ℕ) → Owner owners i m → Owner owners (i + 1) m
-  later-owner owners i m o = let b = o .before in record { place = o .place; before = omega arith; isPin = o .isPin; mark = o .mark; net = o .net }
+  later-owner owners i m o =
+      let b = o .before in record {
+        place = o .place;
+        before = omega arith;
+        isPin = o .isPin;
+        mark = o .mark;
+        net = o .net;
+      }
 
   -- no pin at place i, or one whose net owns its mark
-  pub owned-same : (owners : List ℕ) (i : ℕ) → Owned owners i → (0 < netAt i → getD owners (markAt i) 0 ≡ netAt i) → Owned owners (i + 1)
+  pub owned-same : (owners : List ℕ) (i : ℕ) → Owned owners i → (0 < netAt i → getD owners (markAt i) 0 ≡ netAt i)
+      → Owned owners (i + 1)
   owned-same owners i h here =
-      record { settled = next-place (λ q. 0 < netAt q → getD owners (markAt q) 0 ≡ netAt q) i (h .settled) here; owner = λ m out. later-owner owners i m (h .owner m out) }
+      record {
+        settled = next-place (λ q. 0 < netAt q → getD owners (markAt q) 0 ≡ netAt q) i (h .settled) here;
+        owner = λ m out. later-owner owners i m (h .owner m out);
+      }
 
   -- the first pin of its mark
-  pub owned-new : (owners : List ℕ) (i : ℕ) → Owned owners i → 0 < netAt i → markAt i < length owners → getD owners (markAt i) 0 ≡ 0 → Owned (set owners (markAt i) (netAt i)) (i + 1)
+  pub owned-new : (owners : List ℕ) (i : ℕ) → Owned owners i → 0 < netAt i → markAt i < length owners
+      → getD owners (markAt i) 0 ≡ 0 → Owned (set owners (markAt i) (netAt i)) (i + 1)
   owned-new owners i h pin room free =
-      record { settled = next-place (λ q. 0 < netAt q → getD new (markAt q) 0 ≡ netAt q) i earlier (λ p. here); owner = λ m out. owner′ m out (equal? m (markAt i)) }
+      record {
+        settled = next-place (λ q. 0 < netAt q → getD new (markAt q) 0 ≡ netAt q) i earlier (λ p. here);
+        owner = λ m out. owner′ m out (equal? m (markAt i));
+      }
     where
       new : List ℕ
       new = set owners (markAt i) (netAt i)
@@ -145,31 +171,53 @@ module _ (ch : Channel) (ms : List ℕ) where
       here = getD-set-same owners (markAt i) (netAt i) 0 room
 
       apart : (q : ℕ) → q < i → 0 < netAt q → markAt q ≡ markAt i → ⊥
-      apart q l p e = let s = h .settled q l p in let z : netAt q ≡ 0 = sym s ∙ ap (λ (m : ℕ). getD owners m 0) e ∙ free in omega arith
+      apart q l p e =
+          let s = h .settled q l p in let z : netAt q ≡ 0 = sym s ∙ ap (λ (m : ℕ). getD owners m 0) e ∙ free in
+          omega arith
 
       earlier : (q : ℕ) → q < i → 0 < netAt q → getD new (markAt q) 0 ≡ netAt q
       earlier q l p = getD-set-other owners (markAt i) (markAt q) (netAt i) 0 (apart q l p) ∙ h .settled q l p
 
       owner′ : (m : ℕ) → (getD new m 0 ≡ 0 → ⊥) → (m ≡ markAt i) ⊎ (m ≡ markAt i → ⊥) → Owner new (i + 1) m
       owner′ m out =
-          ⊎-elim (λ e. record { place = i; before = omega arith; isPin = pin; mark = sym e; net = ap (λ (k : ℕ). getD new k 0) e ∙ here })
-          (λ n. let same = getD-set-other owners (markAt i) m (netAt i) 0 n in let o = h .owner m (λ z. out (same ∙ z)) in let b = o .before in record { place = o .place; before = omega arith; isPin = o .isPin; mark = o .mark; net = same ∙ o .net })
+          ⊎-elim (λ e. record {
+            place = i;
+            before = omega arith;
+            isPin = pin;
+            mark = sym e;
+            net = ap (λ (k : ℕ). getD new k 0) e ∙ here;
+          })
+          (λ n. let same = getD-set-other owners (markAt i) m (netAt i) 0 n in
+          let o = h .owner m (λ z. out (same ∙ z)) in let b = o .before in
+          record { place = o .place; before = omega arith; isPin = o .isPin; mark = o .mark; net = same ∙ o .net })
 
   owned-apart : (owners : List ℕ) (i : ℕ) → Owned owners i → (k : ℕ) → k < i → ShortAt k → ⊥
   owned-apart owners i h k l s =
       let b = s .before in
-      s .other (sym (h .settled (s .earlier) (omega arith) (s .earlierIsPin)) ∙ ap (λ (m : ℕ). getD owners m 0) (s .same) ∙ h .settled k l (s .isPin))
+      s .other (sym (h .settled (s .earlier) (omega arith) (s .earlierIsPin))
+      ∙ ap (λ (m : ℕ). getD owners m 0) (s .same) ∙ h .settled k l (s .isPin))
 
   -- the pin at place i is of another net than its mark's owner
-  pub short-found : (owners : List ℕ) (i : ℕ) → Owned owners i → i < places → 0 < netAt i → (getD owners (markAt i) 0 ≡ 0 → ⊥) → (getD owners (markAt i) 0 ≡ netAt i → ⊥) → headOr 0 (shorts ch ms) ≡ i + 1
+  pub short-found : (owners : List ℕ) (i : ℕ) → Owned owners i → i < places → 0 < netAt i
+      → (getD owners (markAt i) 0 ≡ 0 → ⊥) → (getD owners (markAt i) 0 ≡ netAt i → ⊥) → headOr 0 (shorts ch ms) ≡ i + 1
   short-found owners i h l pin taken other =
       let o = h .owner (markAt i) taken in
-      let s : ShortAt i = record { earlier = o .place; before = o .before; isPin = pin; earlierIsPin = o .isPin; other = λ e. other (o .net ∙ e); same = o .mark } in
-      ap (headOr 0) shorts-kept ∙ first-at (λ p. isPin p && anyOf (shortTest p) (pins ch)) places ShortAt short→ i l (→short i l s) (owned-apart owners i h)
+      let s : ShortAt i = record {
+        earlier = o .place;
+        before = o .before;
+        isPin = pin;
+        earlierIsPin = o .isPin;
+        other = λ e. other (o .net ∙ e);
+        same = o .mark;
+      } in
+      ap (headOr 0) shorts-kept ∙ first-at (λ p. isPin p && anyOf (shortTest p) (pins ch)) places ShortAt short→ i l
+      (→short i l s) (owned-apart owners i h)
 
   pub no-short : (owners : List ℕ) → Owned owners places → headOr 0 (shorts ch ms) ≡ 0
   unfolding headOr
-  no-short owners h = ap (headOr 0) (shorts-kept ∙ none-at (λ p. isPin p && anyOf (shortTest p) (pins ch)) places ShortAt short→ (owned-apart owners places h))
+  no-short owners h =
+      ap (headOr 0) (shorts-kept ∙ none-at (λ p. isPin p && anyOf (shortTest p) (pins ch)) places ShortAt short→
+      (owned-apart owners places h))
 
   -- the mark of the first pin of the net at place i
   abbrev firstMark : ℕ → ℕ
@@ -191,12 +239,16 @@ module _ (ch : Channel) (ms : List ℕ) where
   open→ i l t =
       record {
         isPin = ltb→lt 0 (netAt i) (and-left (isPin (suc i)) (openTest (suc i)) t);
-        apart = λ e. not-fails (eqb (firstMark i) (markAt i)) (and-right (isPin (suc i)) (openTest (suc i)) t) (subst (λ (n : ℕ). T (eqb (firstMark i) n)) e (eqb-refl (firstMark i)));
+        apart =
+            λ e. not-fails (eqb (firstMark i) (markAt i)) (and-right (isPin (suc i)) (openTest (suc i)) t)
+            (subst (λ (n : ℕ). T (eqb (firstMark i) n)) e (eqb-refl (firstMark i)));
       }
 
   →open : (i : ℕ) → OpenAt i → T (isPin (suc i) && openTest (suc i))
   unfolding isPin openTest at
-  →open i o = and-both (isPin (suc i)) (openTest (suc i)) (lt→ltb 0 (netAt i) (o .isPin)) (not-passes (eqb (firstMark i) (markAt i)) (λ t. o .apart (eqb→eq (firstMark i) (markAt i) t)))
+  →open i o =
+      and-both (isPin (suc i)) (openTest (suc i)) (lt→ltb 0 (netAt i) (o .isPin))
+      (not-passes (eqb (firstMark i) (markAt i)) (λ t. o .apart (eqb→eq (firstMark i) (markAt i) t)))
 
   -- `firsts` has the mark of the first pin of each net before place i, 0 where there is none, and no pin before is open
   pub record FirstsKnown (firsts : List ℕ) (i : ℕ) : Type 0 where
@@ -205,7 +257,12 @@ module _ (ch : Channel) (ms : List ℕ) where
     pub known : (n : ℕ) → (getD firsts n 0 ≡ 0 → ⊥) → (q : ℕ) × (q < i) × (netAt q ≡ n)
 
   pub firsts-none : (firsts : List ℕ) → ((n : ℕ) → getD firsts n 0 ≡ 0) → FirstsKnown firsts 0
-  firsts-none firsts h = record { settled = λ q l p. absurd (omega arith); joined = λ q l p. absurd (omega arith); known = λ n out. absurd (out (h n)) }
+  firsts-none firsts h =
+      record {
+        settled = λ q l p. absurd (omega arith);
+        joined = λ q l p. absurd (omega arith);
+        known = λ n out. absurd (out (h n));
+      }
 
   -- two places of one net have one first mark
   same-first : (q i : ℕ) → netAt q ≡ netAt i → firstMark q ≡ firstMark i
@@ -216,36 +273,47 @@ module _ (ch : Channel) (ms : List ℕ) where
   firsts-apart firsts i h k l o = o .apart (h .joined k l (o .isPin))
 
   -- a pin of a net that was met before
-  known-first : (firsts : List ℕ) (i : ℕ) → FirstsKnown firsts i → 0 < netAt i → (getD firsts (netAt i) 0 ≡ 0 → ⊥) → firstMark i ≡ getD firsts (netAt i) 0
+  known-first : (firsts : List ℕ) (i : ℕ) → FirstsKnown firsts i → 0 < netAt i → (getD firsts (netAt i) 0 ≡ 0 → ⊥)
+      → firstMark i ≡ getD firsts (netAt i) 0
   known-first firsts i h pin met =
       let r = h .known (netAt i) met in
       let e = r .2 in
-      sym (same-first (r .0) i e) ∙ h .joined (r .0) (r .1) (omega arith) ∙ sym (h .settled (r .0) (r .1) (omega arith)) ∙ ap (λ (n : ℕ). getD firsts n 0) e
+      sym (same-first (r .0) i e) ∙ h .joined (r .0) (r .1) (omega arith) ∙ sym (h .settled (r .0) (r .1) (omega arith))
+      ∙ ap (λ (n : ℕ). getD firsts n 0) e
 
   pub firsts-skip : (firsts : List ℕ) (i : ℕ) → FirstsKnown firsts i → netAt i ≡ 0 → FirstsKnown firsts (i + 1)
   firsts-skip firsts i h none =
       record {
-        settled = next-place (λ q. 0 < netAt q → getD firsts (netAt q) 0 ≡ markAt q) i (h .settled) (λ p. absurd (omega arith));
+        settled =
+            next-place (λ q. 0 < netAt q → getD firsts (netAt q) 0 ≡ markAt q) i (h .settled)
+            (λ p. absurd (omega arith));
         joined = next-place (λ q. 0 < netAt q → firstMark q ≡ markAt q) i (h .joined) (λ p. absurd (omega arith));
         known = λ n out. let r = h .known n out in let l = r .1 in (r .0, omega arith, r .2);
       }
 
-  pub firsts-same : (firsts : List ℕ) (i : ℕ) → FirstsKnown firsts i → 0 < netAt i → (getD firsts (netAt i) 0 ≡ 0 → ⊥) → getD firsts (netAt i) 0 ≡ markAt i → FirstsKnown firsts (i + 1)
+  pub firsts-same : (firsts : List ℕ) (i : ℕ) → FirstsKnown firsts i → 0 < netAt i → (getD firsts (netAt i) 0 ≡ 0 → ⊥)
+      → getD firsts (netAt i) 0 ≡ markAt i → FirstsKnown firsts (i + 1)
   firsts-same firsts i h pin met same =
       record {
         settled = next-place (λ q. 0 < netAt q → getD firsts (netAt q) 0 ≡ markAt q) i (h .settled) (λ p. same);
-        joined = next-place (λ q. 0 < netAt q → firstMark q ≡ markAt q) i (h .joined) (λ p. known-first firsts i h pin met ∙ same);
+        joined =
+            next-place (λ q. 0 < netAt q → firstMark q ≡ markAt q) i (h .joined)
+            (λ p. known-first firsts i h pin met ∙ same);
         known = λ n out. let r = h .known n out in let l = r .1 in (r .0, omega arith, r .2);
       }
 
-  pub open-found : (firsts : List ℕ) (i : ℕ) → FirstsKnown firsts i → i < places → 0 < netAt i → (getD firsts (netAt i) 0 ≡ 0 → ⊥) → (getD firsts (netAt i) 0 ≡ markAt i → ⊥) → headOr 0 (opens ch ms) ≡ i + 1
+  pub open-found : (firsts : List ℕ) (i : ℕ) → FirstsKnown firsts i → i < places → 0 < netAt i
+      → (getD firsts (netAt i) 0 ≡ 0 → ⊥) → (getD firsts (netAt i) 0 ≡ markAt i → ⊥) → headOr 0 (opens ch ms) ≡ i + 1
   open-found firsts i h l pin met other =
       let o : OpenAt i = record { isPin = pin; apart = λ e. other (sym (known-first firsts i h pin met) ∙ e) } in
-      ap (headOr 0) opens-kept ∙ first-at (λ p. isPin p && openTest p) places OpenAt open→ i l (→open i o) (firsts-apart firsts i h)
+      ap (headOr 0) opens-kept ∙ first-at (λ p. isPin p && openTest p) places OpenAt open→ i l (→open i o)
+      (firsts-apart firsts i h)
 
   pub no-open : (firsts : List ℕ) → FirstsKnown firsts places → headOr 0 (opens ch ms) ≡ 0
   unfolding headOr
-  no-open firsts h = ap (headOr 0) (opens-kept ∙ none-at (λ p. isPin p && openTest p) places OpenAt open→ (firsts-apart firsts places h))
+  no-open firsts h =
+      ap (headOr 0) (opens-kept ∙ none-at (λ p. isPin p && openTest p) places OpenAt open→
+      (firsts-apart firsts places h))
 
   module _ (esc : Escapes ch) (positive : (q : ℕ) → q < places → 0 < markAt q) where
     -- the first pin of its net is its own first pin
@@ -260,17 +328,24 @@ module _ (ch : Channel) (ms : List ℕ) where
         low = first-of-net ch esc (suc i) holder
 
         not-before : (p : ℕ) → p ≡ firstOfNet ch (suc i) → p < suc i → ⊥
-        not-before zero e k = let z : at (positions ch) 0 ≡ netAt i = position-net ch 0 ∙ ap (λ (q : ℕ). netOf ch (pinAt ch q)) e ∙ low .holds ∙ sym (position-net ch (suc i)) in omega arith
-        not-before (suc q) e k = none q (omega arith) (position-net ch (suc q) ∙ ap (λ (r : ℕ). netOf ch (pinAt ch r)) e ∙ low .holds ∙ sym (position-net ch (suc i)))
+        not-before zero e k =
+            let z : at (positions ch) 0 ≡ netAt i = position-net ch 0 ∙ ap (λ (q : ℕ). netOf ch (pinAt ch q)) e
+            ∙ low .holds ∙ sym (position-net ch (suc i)) in omega arith
+        not-before (suc q) e k =
+            none q (omega arith) (position-net ch (suc q) ∙ ap (λ (r : ℕ). netOf ch (pinAt ch r)) e ∙ low .holds
+            ∙ sym (position-net ch (suc i)))
 
         first : firstOfNet ch (suc i) ≡ suc i
         first = let below = low .lowest (suc i) refl in let out = not-before (firstOfNet ch (suc i)) refl in omega arith
 
-    pub firsts-new : (firsts : List ℕ) (i : ℕ) → FirstsKnown firsts i → i < places → 0 < netAt i → netAt i < length firsts → getD firsts (netAt i) 0 ≡ 0 → FirstsKnown (set firsts (netAt i) (markAt i)) (i + 1)
+    pub firsts-new : (firsts : List ℕ) (i : ℕ) → FirstsKnown firsts i → i < places → 0 < netAt i
+        → netAt i < length firsts → getD firsts (netAt i) 0 ≡ 0 → FirstsKnown (set firsts (netAt i) (markAt i)) (i + 1)
     firsts-new firsts i h l pin room free =
         record {
           settled = next-place (λ q. 0 < netAt q → getD new (netAt q) 0 ≡ markAt q) i earlier (λ p. here);
-          joined = next-place (λ q. 0 < netAt q → firstMark q ≡ markAt q) i (h .joined) (λ p. own-first i l pin (λ q k e. apart q k (omega arith) e));
+          joined =
+              next-place (λ q. 0 < netAt q → firstMark q ≡ markAt q) i (h .joined)
+              (λ p. own-first i l pin (λ q k e. apart q k (omega arith) e));
           known = λ n out. known′ n out (equal? n (netAt i));
         }
       where
@@ -281,13 +356,19 @@ module _ (ch : Channel) (ms : List ℕ) where
         here = getD-set-same firsts (netAt i) (markAt i) 0 room
 
         apart : (q : ℕ) → q < i → 0 < netAt q → netAt q ≡ netAt i → ⊥
-        apart q k p e = let s = h .settled q k p in let z : markAt q ≡ 0 = sym s ∙ ap (λ (n : ℕ). getD firsts n 0) e ∙ free in let m = positive q (omega arith) in omega arith
+        apart q k p e =
+            let s = h .settled q k p in let z : markAt q ≡ 0 = sym s ∙ ap (λ (n : ℕ). getD firsts n 0) e ∙ free in
+            let m = positive q (omega arith) in omega arith
 
         earlier : (q : ℕ) → q < i → 0 < netAt q → getD new (netAt q) 0 ≡ markAt q
         earlier q k p = getD-set-other firsts (netAt i) (netAt q) (markAt i) 0 (apart q k p) ∙ h .settled q k p
 
-        known′ : (n : ℕ) → (getD new n 0 ≡ 0 → ⊥) → (n ≡ netAt i) ⊎ (n ≡ netAt i → ⊥) → (q : ℕ) × (q < i + 1) × (netAt q ≡ n)
-        known′ n out = ⊎-elim (λ e. (i, omega arith, sym e)) (λ d. let r = h .known n (λ z. out (getD-set-other firsts (netAt i) n (markAt i) 0 d ∙ z)) in let k = r .1 in (r .0, omega arith, r .2))
+        known′ : (n : ℕ) → (getD new n 0 ≡ 0 → ⊥) → (n ≡ netAt i) ⊎ (n ≡ netAt i → ⊥)
+            → (q : ℕ) × (q < i + 1) × (netAt q ≡ n)
+        known′ n out =
+            ⊎-elim (λ e. (i, omega arith, sym e)) (λ d. let r =
+            h .known n (λ z. out (getD-set-other firsts (netAt i) n (markAt i) 0 d ∙ z)) in let k = r .1 in
+            (r .0, omega arith, r .2))
 
   -- no pin has the mark of the piece at place j, from 0
   abbrev pub FloatingAt : ℕ → Type 0
@@ -305,11 +386,15 @@ module _ (ch : Channel) (ms : List ℕ) where
     unfolding floatTest pins isPin at
     float→ j k t q b pin e =
         not-fails (anyOf (λ p. eqb (at ms p) (at ms (places + suc j))) (pins ch)) t
-        (member→any (λ p. eqb (at ms p) (at ms (places + suc j))) (kept isPin (in-upTo places (suc q) (omega arith) (omega arith)) (lt→ltb 0 (netAt q) pin)) (subst (λ (n : ℕ). T (eqb (markAt q) n)) (e ∙ sym (piece-mark j)) (eqb-refl (markAt q))))
+        (member→any (λ p. eqb (at ms p) (at ms (places + suc j)))
+        (kept isPin (in-upTo places (suc q) (omega arith) (omega arith)) (lt→ltb 0 (netAt q) pin))
+        (subst (λ (n : ℕ). T (eqb (markAt q) n)) (e ∙ sym (piece-mark j)) (eqb-refl (markAt q))))
 
     →float : (j : ℕ) → FloatingAt j → T (floatTest (suc j))
     unfolding floatTest pins isPin at
-    →float j f = not-passes (anyOf (λ p. eqb (at ms p) (at ms (places + suc j))) (pins ch)) (λ t. let r = any→member (λ p. eqb (at ms p) (at ms (places + suc j))) (pins ch) t in go (r .0) (r .1) (r .2))
+    →float j f =
+        not-passes (anyOf (λ p. eqb (at ms p) (at ms (places + suc j))) (pins ch))
+        (λ t. let r = any→member (λ p. eqb (at ms p) (at ms (places + suc j))) (pins ch) t in go (r .0) (r .1) (r .2))
       where
         go : (p : ℕ) → List·Memᴰ p (pins ch) → T (eqb (at ms p) (at ms (places + suc j))) → ⊥
         go zero m t = let b = upTo-member places (keep-member isPin (upTo places) m .0) in omega arith
@@ -318,7 +403,8 @@ module _ (ch : Channel) (ms : List ℕ) where
             let b = upTo-member places (r .0) in
             f q (omega arith) (ltb→lt 0 (netAt q) (r .1)) (eqb→eq (markAt q) (at ms (places + suc j)) t ∙ piece-mark j)
 
-    pub floating-found : (j : ℕ) → j < length (l .pieces) → FloatingAt j → ((k : ℕ) → k < j → FloatingAt k → ⊥) → headOr 0 (floating ch l ms) ≡ j + 1
+    pub floating-found : (j : ℕ) → j < length (l .pieces) → FloatingAt j → ((k : ℕ) → k < j → FloatingAt k → ⊥)
+        → headOr 0 (floating ch l ms) ≡ j + 1
     unfolding floating floatTest
     floating-found j k f before = first-at floatTest (length (l .pieces)) FloatingAt float→ j k (→float j f) before
 
@@ -327,8 +413,13 @@ module _ (ch : Channel) (ms : List ℕ) where
     no-floating before = ap (headOr 0) (none-at floatTest (length (l .pieces)) FloatingAt float→ before)
 
   -- a mark without an owner is no pin's, and one with an owner is
-  pub unowned-floating : (owners : List ℕ) (j : ℕ) → Owned owners places → getD owners (markAt (places + j)) 0 ≡ 0 → FloatingAt j
-  unowned-floating owners j h free q l pin e = let s = h .settled q l pin in let z : netAt q ≡ 0 = sym s ∙ ap (λ (m : ℕ). getD owners m 0) e ∙ free in omega arith
+  pub unowned-floating : (owners : List ℕ) (j : ℕ) → Owned owners places → getD owners (markAt (places + j)) 0 ≡ 0
+      → FloatingAt j
+  unowned-floating owners j h free q l pin e =
+      let s = h .settled q l pin in let z : netAt q ≡ 0 = sym s ∙ ap (λ (m : ℕ). getD owners m 0) e ∙ free in
+      omega arith
 
-  pub owned-joined : (owners : List ℕ) (j : ℕ) → Owned owners places → (getD owners (markAt (places + j)) 0 ≡ 0 → ⊥) → FloatingAt j → ⊥
-  owned-joined owners j h taken f = let o = h .owner (markAt (places + j)) taken in f (o .place) (o .before) (o .isPin) (o .mark)
+  pub owned-joined : (owners : List ℕ) (j : ℕ) → Owned owners places → (getD owners (markAt (places + j)) 0 ≡ 0 → ⊥)
+      → FloatingAt j → ⊥
+  owned-joined owners j h taken f =
+      let o = h .owner (markAt (places + j)) taken in f (o .place) (o .before) (o .isPin) (o .mark)

@@ -1,37 +1,21 @@
 -- The test of two elements of a layout equals its meaning.
 use Prim.Native.Nat.{ℕ}
+use mathlib.Core.Path.{subst}
 use mathlib.Core.List.{List·Memᴰ}
-use mathlib.Core.Bool.{Bool, _&&_}
-use lib.Dec.{T, leb}
-use Rattle.lists.specs.Tests.{and-left, and-right, and-both}
-use Rattle.grid.specs.declared.Piece.{Piece}
-use Rattle.grid.specs.Pieces.{left, right, low, high, Layout}
-use Rattle.grid.specs.Touching.{meet, overlap, touches}
-use Rattle.grid.specs.TouchLaws.{on-grid→boxed, touches→, →touches, meet-sym}
+use lib.Dec.{T}
+use Rattle.grid.specs.Pieces.{Layout}
+use Rattle.grid.specs.TouchLaws.{on-grid→boxed, touches→, →touches, touches-turned}
 use Rattle.channel.specs.Channel.{Channel}
 use Rattle.wiring.specs.PinLaws.{pin-touches→, →pin-touches}
 use Rattle.wiring.specs.Layouts.{Element, pin, copper, Present, Touching, AllOnGrid}
 use Rattle.judge.specs.Elements.{elementsTouch}
-
-touches-turned : (p q : Piece) → T (touches p q) → T (touches q p)
-unfolding touches
-touches-turned p q h =
-    let rest = and-right (overlap (left p) (right p) (left q) (right q)) (overlap (low p) (high p) (low q) (high q) && meet p q) h in
-    and-both (overlap (left q) (right q) (left p) (right p)) (overlap (low q) (high q) (low p) (high p) && meet q p)
-    (turned (leb (left p) (right q)) (leb (left q) (right p)) (and-left (overlap (left p) (right p) (left q) (right q)) (overlap (low p) (high p) (low q) (high q) && meet p q) h))
-    (and-both (overlap (low q) (high q) (low p) (high p)) (meet q p)
-    (turned (leb (low p) (high q)) (leb (low q) (high p)) (and-left (overlap (low p) (high p) (low q) (high q)) (meet p q) rest))
-    (meet-sym p q (and-right (overlap (low p) (high p) (low q) (high q)) (meet p q) rest)))
-  where
-    turned : (a b : Bool) → T (a && b) → T (b && a)
-    turned a b h = and-both b a (and-right a b h) (and-left a b h)
 
 pub test-sym : (ch : Channel) (t : ℕ) (x y : Element) → T (elementsTouch ch t x y) → T (elementsTouch ch t y x)
 unfolding elementsTouch
 test-sym ch t (pin x) (pin y) h = h
 test-sym ch t (pin x) (copper q) h = h
 test-sym ch t (copper p) (pin y) h = h
-test-sym ch t (copper p) (copper q) h = touches-turned p q h
+test-sym ch t (copper p) (copper q) h = subst T (touches-turned p q) h
 
 -- the places of pins, whether or not they hold one, and the pieces of the layout
 abbrev pub Placed : Layout → Element → Type 0
@@ -39,15 +23,18 @@ Placed l (pin x) = Unit {0}
 Placed l (copper p) = List·Memᴰ p (l .pieces)
 
 -- of two places that touch, both are elements of the layout, and they touch
-pub test→touching : (ch : Channel) (l : Layout) → AllOnGrid ch l → (x y : Element) → Placed l x → Placed l y → T (elementsTouch ch (l .tracks) x y)
+pub test→touching : (ch : Channel) (l : Layout) → AllOnGrid ch l → (x y : Element) → Placed l x → Placed l y
+    → T (elementsTouch ch (l .tracks) x y)
     → Present ch l x × Present ch l y × Touching (l .tracks) x y
 unfolding elementsTouch Present Touching
 test→touching ch l g (pin x) (pin y) px py h = absurd h
 test→touching ch l g (pin x) (copper q) px py h = let r = pin-touches→ ch (l .tracks) x q h in (r .0, py, r .1)
 test→touching ch l g (copper p) (pin y) px py h = let r = pin-touches→ ch (l .tracks) y p h in (px, r .0, r .1)
-test→touching ch l g (copper p) (copper q) px py h = (px, py, touches→ p q (on-grid→boxed p (g p px)) (on-grid→boxed q (g q py)) h)
+test→touching ch l g (copper p) (copper q) px py h =
+    (px, py, touches→ p q (on-grid→boxed (l .tracks) p (g p px)) (on-grid→boxed (l .tracks) q (g q py)) h)
 
-pub touching→test : (ch : Channel) (l : Layout) (x y : Element) → Present ch l x → Present ch l y → Touching (l .tracks) x y → T (elementsTouch ch (l .tracks) x y)
+pub touching→test : (ch : Channel) (l : Layout) (x y : Element) → Present ch l x → Present ch l y
+    → Touching (l .tracks) x y → T (elementsTouch ch (l .tracks) x y)
 unfolding elementsTouch Present Touching
 touching→test ch l (pin x) (pin y) px py h = h
 touching→test ch l (pin x) (copper q) px py h = →pin-touches ch (l .tracks) x q px h

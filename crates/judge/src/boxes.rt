@@ -2,14 +2,20 @@
 ghost use mathlib.Core.Path.{_≡_};
 ghost use mathlib.Core.Bool.{cond};
 ghost use Rattle.judge.specs.Code.{boxOf, boxesTouch};
+use boardfile::Fields;
+use grid::BRANCH;
+use grid::CONTACT;
+use grid::Column;
+use grid::Row;
+use grid::TRUNK;
 
-// A kind (0 trunk, 1 branch, 2 contact), the first and the last column, the lowest and the highest row.
+// A kind, the first and the last column, the lowest and the highest row.
 pub struct Cover {
     pub kind: u32,
-    pub left: u32,
-    pub right: u32,
-    pub low: u32,
-    pub high: u32,
+    pub left: Column,
+    pub right: Column,
+    pub low: Row,
+    pub high: Row,
 }
 
 // One of two numbers: without a jump, so that pieces in any order cost the same.
@@ -23,36 +29,38 @@ fn pick(first: bool, a: u32, b: u32) -> u32
 pub fn cover_of(v: u32) -> Cover
     ensures { λ r. ⌜ r ≡ boxOf v ⌝ }
 {
-    let kind = v / 1073741824;
-    let line = v / 1048576 % 1024;
-    let from = v / 1024 % 1024;
-    let to = v % 1024;
-    let trunk = kind == 0;
-    let branch = kind == 1;
+    let Fields {
+        kind,
+        line,
+        from,
+        to,
+    } = boardfile::fields_of(v);
+    let trunk = kind == TRUNK;
+    let branch = kind == BRANCH;
     Cover {
-        kind: pick(trunk, 0, pick(branch, 1, 2)),
-        left: pick(trunk, from, line),
-        right: pick(trunk, to, line),
-        low: pick(trunk, line, from),
-        high: pick(trunk, line, pick(branch, to, from)),
+        kind: pick(trunk, TRUNK, pick(branch, BRANCH, CONTACT)),
+        left: Column(pick(trunk, from, line)),
+        right: Column(pick(trunk, to, line)),
+        low: Row(pick(trunk, line, from)),
+        high: Row(pick(trunk, line, pick(branch, to, from))),
     }
 }
 
-// Both have a common point, and are of one kind or one is a contact.
+// Both have a common point, and their kinds meet.
 pub fn covers_touch(a: Cover, b: Cover) -> bool
     ensures { λ r. ⌜ r ≡ boxesTouch a b ⌝ }
 {
-    if b.right < a.left {
+    if b.right.0 < a.left.0 {
         return false;
     }
-    if a.right < b.left {
+    if a.right.0 < b.left.0 {
         return false;
     }
-    if b.high < a.low {
+    if b.high.0 < a.low.0 {
         return false;
     }
-    if a.high < b.low {
+    if a.high.0 < b.low.0 {
         return false;
     }
-    (a.kind == b.kind) | ((a.kind == 2) | (b.kind == 2))
+    grid::kinds_meet(a.kind, b.kind)
 }

@@ -1,17 +1,19 @@
 -- What the code of the fill and of the walk answers and leaves, over the definitions.
-use Prim.Native.Nat.{ℕ, _≤_, _<_}
+use Prim.Native.Nat.{ℕ, _≤_}
 use mathlib.Core.Path.{_≡_}
-use mathlib.Core.List.{List, [], List·Memᴰ}
+use mathlib.Core.List.{List, map, List·Memᴰ}
 use mathlib.Core.Logic.{_↔_}
-use lib.ListN.{length, take, getD}
+use lib.ListN.{length, take, getD, replicate}
 use Rattle.lists.specs.Lists.{overlay}
+use Rattle.grid.specs.declared.Track.{Track}
+use Rattle.grid.specs.Pieces.{track}
 use Rattle.channel.specs.Channel.{Channel, spanning}
 use Rattle.channel.specs.Answers.{Escapes}
 use Rattle.channel.specs.Spans.{each512}
 use Rattle.leftedge.specs.declared.Outcome.{Outcome}
 use Rattle.leftedge.specs.declared.Outcome.the-variants.{Placed, Stuck}
 use Rattle.leftedge.specs.declared.Filled.{Filled}
-use Rattle.leftedge.specs.Items.{Place, trackOf}
+use Rattle.leftedge.specs.Items.{trackOf}
 use Rattle.leftedge.specs.Fill.{Filling, filled, stuck}
 use Rattle.leftedge.specs.Walk.{ringOf, ringNumbers}
 use Rattle.leftedge.specs.Nets.{netItems, fill}
@@ -27,15 +29,25 @@ unfoldable pub ringHeld : Channel → Filling → List ℕ → List ℕ
 ringHeld ch (filled t ps) ring = ring
 ringHeld ch (stuck left) ring = overlay (ringNumbers (ringOf (netItems ch) left)) ring
 
--- What `fill_tracks` answers, and what the ring buffer then holds. Rules out: a fill that puts all nets on its first track (tracks);
--- a ring begun at the highest unplaced net (ring).
+-- the track of each net number, by its place, 0 where it has none; where the fill is stuck nobody has one
+unfoldable pub tracksBy : Filling → List Track
+tracksBy (filled t ps) = map track (each512 (trackOf ps))
+tracksBy (stuck left) = replicate 512 (track 0)
+
+-- What `fill_tracks` answers, and what the ring buffer then holds. Rules out: a fill that puts all nets on its first
+-- track (tracks); a ring begun at the highest unplaced net (ring).
 pub record FillDone (ch : Channel) (ring : List ℕ) (r : Filled) (ring′ : List ℕ) : Type 0 where
   pub outcome : r .outcome ≡ outcomeOf ch (fill ch)
-  pub tracks : (t : ℕ) (ps : List Place) → fill ch ≡ filled t ps → r .tracks ≡ each512 (trackOf ps)
+  pub tracks : r .tracks ≡ tracksBy (fill ch)
   pub held : ring′ ≡ ringHeld ch (fill ch) ring
 
--- the state in which the walk begins: the first `count` of `left` are the nets left by a fill that is stuck, and just these have no track among
--- the nets with spans
+-- what `show_ring` answers of the nets left, and what the ring buffer then holds
+pub record RingShown (ch : Channel) (left ring : List ℕ) (r : ℕ) (ring′ : List ℕ) : Type 0 where
+  pub counted : r ≡ length (ringOf (netItems ch) left)
+  pub shown : ring′ ≡ overlay (ringNumbers (ringOf (netItems ch) left)) ring
+
+-- the state in which the walk begins: the first `count` of `left` are the nets left by a fill that is stuck, and just
+-- these have no track among the nets with spans
 pub record WalkFrom (ch : Channel) (tracks left : List ℕ) (count : ℕ) : Type 0 where
   pub escapes : Escapes ch
   pub fits : count ≤ length left

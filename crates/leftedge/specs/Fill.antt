@@ -1,7 +1,7 @@
 -- 01, "Filling tracks": "For each track from 1 up, the list of unplaced nets is scanned once."
 use Prim.Native.Nat.{ℕ, zero, suc}
 use mathlib.Core.List.{List, [], _∷_}
-use mathlib.Core.Bool.{Bool, cond, _&&_}
+use mathlib.Core.Bool.{cond, _&&_}
 use mathlib.Core.Option.{Option, none, some}
 use lib.ListN.{length}
 use lib.Dec.{eqb}
@@ -13,7 +13,8 @@ pub record Scan : Type 0 where
   pub left : List ℕ
 
 -- one scan for track k: the item placed before on this track, what is placed, and the unplaced items still to look at.
--- "A net is placed if its first column exceeds the last column of the net placed before it on this track, if any, and all nets directly below it are placed"
+-- "A net is placed if its first column exceeds the last column of the net placed before it on this track, if any, and
+-- all nets directly below it are placed"
 unfoldable pub scan : Items → ℕ → Option ℕ → List Place → List ℕ → Scan
 scan it k before ps [] = record { placed = ps; left = [] }
 scan it k before ps (n ∷ ns) =

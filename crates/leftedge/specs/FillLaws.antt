@@ -1,4 +1,5 @@
--- The whole fill: an invariant that holds between tracks. Each track that takes an item makes the items left fewer, so the fill ends with none left or with an empty track.
+-- The whole fill: an invariant that holds between tracks. Each track that takes an item makes the items left fewer, so
+-- the fill ends with none left or with an empty track.
 use Prim.Native.Nat.{ℕ, zero, suc, _+_, _≤_, _<_}
 use native.Mathlib.Omega.{arith}
 use mathlib.Core.Path.{_≡_, refl, sym, _∙_, subst}
@@ -15,7 +16,8 @@ use Rattle.leftedge.specs.Items.{Items, Place, isPlaced, trackOf, fits, 
 use Rattle.leftedge.specs.Fill.{Scan, scan, Filling, filled, stuck, orElse, fillFrom, fillItems}
 use Rattle.leftedge.specs.Invariants.{Falls, Orderly, FilledBy, StuckWith}
 use Rattle.leftedge.specs.TrackLaws.{tracked→placed, unclear→unplaced}
-use Rattle.leftedge.specs.ScanLaws.{Trace, trace, AllMet, Sound, OnTrack, Scanning, Outcome, empty, filled-by, scan-sound, scan-others, scan-sublist, scan-left, scan-known, scan-outcome}
+use Rattle.leftedge.specs.ScanLaws.{Trace, trace, AllMet, Sound, OnTrack, Scanning, Outcome, empty, filled-by}
+use Rattle.leftedge.specs.ScanLaws.{scan-sound, scan-others, scan-sublist, scan-left, scan-known, scan-outcome}
 
 -- what holds when `done` tracks are filled
 pub record Settled (it : Items) (done : ℕ) (ps : List Place) (left : List ℕ) : Type 0 where
@@ -34,7 +36,15 @@ module _ (it : Items) (orderly : Orderly it) where
         sub = Sublistᴰ·refl (it .order);
         fresh = λ n h. refl;
         known = λ n h e. h;
-        sound = record { positive = λ n h. absurd h; high = λ n. omega arith; real = λ n h. absurd (omega arith); side = λ m n apart h e. absurd (omega arith); lower = λ a b c h f. absurd (omega arith); met = λ bare n j inside l u h w. absurd (omega arith) };
+        sound =
+            record {
+              positive = λ n h. absurd h;
+              high = λ n. omega arith;
+              real = λ n h. absurd (omega arith);
+              side = λ m n apart h e. absurd (omega arith);
+              lower = λ a b c h f. absurd (omega arith);
+              met = λ bare n j inside l u h w. absurd (omega arith);
+            };
         used = λ j l u. absurd (omega arith);
         count = omega arith;
       }
@@ -47,7 +57,22 @@ module _ (it : Items) (orderly : Orderly it) where
     next-track : Scanning it (suc done) none ps left
     unfolding OnTrack
     next-track =
-        record { sub = s .sub; fresh = s .fresh; sound = record { positive = sd .positive; high = λ n. let u = sd .high n in omega arith; real = sd .real; side = sd .side; lower = sd .lower; met = met }; onTrack = none-yet; earlier = λ m n e h. absurd (none-yet m e) }
+        record {
+          sub = s .sub;
+          fresh = s .fresh;
+          sound =
+              record {
+                positive = sd .positive;
+                high = λ n. let u = sd .high n in
+                    omega arith;
+                real = sd .real;
+                side = sd .side;
+                lower = sd .lower;
+                met = met;
+              };
+          onTrack = none-yet;
+          earlier = λ m n e h. absurd (none-yet m e);
+        }
       where
         sd : Sound it done ps []
         sd = s .sound
@@ -57,23 +82,37 @@ module _ (it : Items) (orderly : Orderly it) where
 
         met : AllMet it (suc done) ps left
         met bare n j inside l u h w =
-            ⊎-elim (λ e. ⊎-elim (λ z. absurd (h e (s .known n inside z))) (λ z. let v = sd .high n in absurd (omega arith)) w) (λ less. sd .met bare n j inside l (omega arith) (λ q x. List·Memᴰ·not-nil x) w) (equal? j (suc done))
+            ⊎-elim (λ e. ⊎-elim (λ z. absurd (h e (s .known n inside z)))
+            (λ z. let v = sd .high n in absurd (omega arith)) w)
+            (λ less. sd .met bare n j inside l (omega arith) (λ q x. List·Memᴰ·not-nil x) w) (equal? j (suc done))
 
     -- a scan that placed an item leaves one track more filled
-    settle : (qs : List Place) (rest : List ℕ) → Trace it (suc done) none ps left qs rest → (n : ℕ) → trackOf qs n ≡ suc done → length rest < length left → Settled it (suc done) qs rest
+    settle : (qs : List Place) (rest : List ℕ) → Trace it (suc done) none ps left qs rest → (n : ℕ)
+        → trackOf qs n ≡ suc done → length rest < length left → Settled it (suc done) qs rest
     settle qs rest t n on fewer =
-        record { sub = Sublistᴰ·trans (scan-sublist t) (s .sub); fresh = scan-left t left-distinct (s .fresh); known = known; sound = scan-sound it orderly (suc done) (omega arith) t next-track; used = used; count = let c = s .count in omega arith }
+        record {
+          sub = Sublistᴰ·trans (scan-sublist t) (s .sub);
+          fresh = scan-left t left-distinct (s .fresh);
+          known = known;
+          sound = scan-sound it orderly (suc done) (omega arith) t next-track;
+          used = used;
+          count = let c = s .count in omega arith;
+        }
       where
         known : (m : ℕ) → List·Memᴰ m (it .order) → trackOf qs m ≡ 0 → List·Memᴰ m rest
         known m inside e =
-            scan-known t (omega arith) left-distinct m (⊎-elim (λ h. h) (λ out. s .known m inside (sym (scan-others t m out) ∙ e)) (member? m left)) e
+            scan-known t (omega arith) left-distinct m (⊎-elim (λ h. h)
+            (λ out. s .known m inside (sym (scan-others t m out) ∙ e)) (member? m left)) e
 
         used : (j : ℕ) → 1 ≤ j → j ≤ suc done → (m : ℕ) × (trackOf qs m ≡ j)
         used j l u =
-            ⊎-elim (λ e. (n, on ∙ sym e)) (λ less. let r = s .used j l (omega arith) in let k = r .1 in (r .0, scan-others t (r .0) (λ h. let z = s .fresh (r .0) h in absurd (omega arith)) ∙ r .1)) (equal? j (suc done))
+            ⊎-elim (λ e. (n, on ∙ sym e)) (λ less. let r = s .used j l (omega arith) in let k = r .1 in
+            (r .0, scan-others t (r .0) (λ h. let z = s .fresh (r .0) h in absurd (omega arith)) ∙ r .1))
+            (equal? j (suc done))
 
     -- the next track, where it takes an item
-    pub settled-next : (length (scan it (suc done) none ps left .left) ≡ length left → ⊥) → Settled it (suc done) (scan it (suc done) none ps left .placed) (scan it (suc done) none ps left .left)
+    pub settled-next : (length (scan it (suc done) none ps left .left) ≡ length left → ⊥)
+        → Settled it (suc done) (scan it (suc done) none ps left .placed) (scan it (suc done) none ps left .left)
     settled-next fewer = go (scan-outcome steps left-distinct)
       where
         after : Scan
@@ -82,48 +121,63 @@ module _ (it : Items) (orderly : Orderly it) where
         steps : Trace it (suc done) none ps left (after .placed) (after .left)
         steps = trace it (suc done) none ps left
 
-        go : Outcome it (suc done) none ps left (after .placed) (after .left) → Settled it (suc done) (after .placed) (after .left)
+        go : Outcome it (suc done) none ps left (after .placed) (after .left)
+            → Settled it (suc done) (after .placed) (after .left)
         go (empty same fails) = absurd (fewer same)
         go (filled-by m on less) = settle (after .placed) (after .left) steps m on less
 
     -- a track that stays empty: no item left is clear below
-    blocked : ((n : ℕ) → List·Memᴰ n left → T (fits it none n && clearBelow it ps n) → ⊥) → (n : ℕ) → List·Memᴰ n left → (b c : ℕ) × Falls it n b c × List·Memᴰ b left
+    blocked : ((n : ℕ) → List·Memᴰ n left → T (fits it none n && clearBelow it ps n) → ⊥) → (n : ℕ) → List·Memᴰ n left
+        → (b c : ℕ) × Falls it n b c × List·Memᴰ b left
     unfolding fits
     blocked fails n h =
         let r = unclear→unplaced it ps n (λ t. fails n h t) in
-        let zero-track : trackOf ps (r .0) ≡ 0 = ⊎-elim (λ e. e) (λ above. absurd (r .3 (tracked→placed ps (r .0) (omega arith)))) (equal? (trackOf ps (r .0)) 0) in
-        (r .0, r .1, r .2, s .known (r .0) (orderly .inside n (r .0) (r .1) (sublist-member (s .sub) h) (r .2)) zero-track)
+        let zero-track : trackOf ps (r .0) ≡ 0 = ⊎-elim (λ e. e)
+        (λ above. absurd (r .3 (tracked→placed ps (r .0) (omega arith)))) (equal? (trackOf ps (r .0)) 0) in (
+          r .0,
+          r .1,
+          r .2,
+          s .known (r .0) (orderly .inside n (r .0) (r .1) (sublist-member (s .sub) h) (r .2))
+              zero-track,
+        )
 
   all-placed : (t : ℕ) (ps : List Place) → Settled it t ps [] → FilledBy it t ps
   all-placed t ps s =
       record {
         tracked = λ n h. (tracked n h, sd .high n);
-        untracked = λ n out. ⊎-elim (λ e. e) (λ above. absurd (out (sd .real n (omega arith)))) (equal? (trackOf ps n) 0);
+        untracked =
+            λ n out. ⊎-elim (λ e. e) (λ above. absurd (out (sd .real n (omega arith)))) (equal? (trackOf ps n) 0);
         used = λ k l u. let r = s .used k l u in let e = r .1 in (r .0, sd .real (r .0) (omega arith), r .1);
         few = let c = s .count in omega arith;
         side = λ m n hm hn apart e. sd .side m n apart (tracked m hm) e;
         lower = λ a b c h f. sd .lower a b c (tracked a h) f .1;
-        pressed = λ bare n j h l u. let v = sd .high n in let r = sd .met bare n j h l (omega arith) (λ q x. List·Memᴰ·not-nil x) (inr u) in let e = r .1 in (r .0, sd .real (r .0) (omega arith), r .1, r .2, r .3);
+        pressed =
+            λ bare n j h l u. let v = sd .high n in let r =
+            sd .met bare n j h l (omega arith) (λ q x. List·Memᴰ·not-nil x) (inr u) in let e = r .1 in
+            (r .0, sd .real (r .0) (omega arith), r .1, r .2, r .3);
       }
     where
       sd : Sound it t ps []
       sd = s .sound
 
       tracked : (n : ℕ) → List·Memᴰ n (it .order) → 1 ≤ trackOf ps n
-      tracked n h = ⊎-elim (λ e. absurd (List·Memᴰ·not-nil (s .known n h e))) (λ above. omega arith) (equal? (trackOf ps n) 0)
+      tracked n h =
+          ⊎-elim (λ e. absurd (List·Memᴰ·not-nil (s .known n h e))) (λ above. omega arith) (equal? (trackOf ps n) 0)
 
   -- what each of the two ends of a fill promises
   abbrev Ends : Filling → Type 0
   Ends (filled t ps) = FilledBy it t ps
   Ends (stuck left) = StuckWith it left
 
-  fill-ends : (fuel done : ℕ) (ps : List Place) (left : List ℕ) → length left ≤ fuel → Settled it done ps left → Ends (fillFrom fuel it done ps left)
+  fill-ends : (fuel done : ℕ) (ps : List Place) (left : List ℕ) → length left ≤ fuel → Settled it done ps left
+      → Ends (fillFrom fuel it done ps left)
   unfolding fillFrom orElse
   fill-ends zero done ps [] enough s = all-placed done ps s
   fill-ends zero done ps (n ∷ ns) enough s = absurd (omega arith)
   fill-ends (suc fuel) done ps [] enough s = all-placed done ps s
   fill-ends (suc fuel) done ps (n ∷ ns) enough s =
-      go (eqb (length (after .left)) (length left)) refl (scan-outcome steps (left-distinct done ps left s)) (λ h k. fill-ends fuel (suc done) (after .placed) (after .left) h k)
+      go (eqb (length (after .left)) (length left)) refl (scan-outcome steps (left-distinct done ps left s))
+      (λ h k. fill-ends fuel (suc done) (after .placed) (after .left) h k)
     where
       left : List ℕ
       left = n ∷ ns
@@ -137,12 +191,24 @@ module _ (it : Items) (orderly : Orderly it) where
       steps : Trace it (suc done) none ps left (after .placed) (after .left)
       steps = trace it (suc done) none ps left
 
-      go : (b : Bool) → eqb (length (after .left)) (length left) ≡ b → Outcome it (suc done) none ps left (after .placed) (after .left) → (length (after .left) ≤ fuel → Settled it (suc done) (after .placed) (after .left) → Ends further)
+      go : (b : Bool) → eqb (length (after .left)) (length left) ≡ b
+          → Outcome it (suc done) none ps left (after .placed) (after .left)
+          → (length (after .left) ≤ fuel → Settled it (suc done) (after .placed) (after .left) → Ends further)
           → Ends (cond b (stuck left) further)
-      go true e (empty same fails) rest = record { some-left = omega arith; items = λ m h. sublist-member (s .sub) h; distinct = left-distinct done ps left s; blocked = blocked done ps left s fails }
-      go true e (filled-by m on fewer) rest = let q = eqb→eq (length (after .left)) (length left) (true→T _ e) in absurd (omega arith)
-      go false e (empty same fails) rest = absurd (false→fails _ e (subst (λ (x : ℕ). T (eqb (length (after .left)) x)) same (eqb-refl (length (after .left)))))
-      go false e (filled-by m on fewer) rest = rest (omega arith) (settle done ps left s (after .placed) (after .left) steps m on fewer)
+      go true e (empty same fails) rest =
+          record {
+            some-left = omega arith;
+            items = λ m h. sublist-member (s .sub) h;
+            distinct = left-distinct done ps left s;
+            blocked = blocked done ps left s fails;
+          }
+      go true e (filled-by m on fewer) rest =
+          let q = eqb→eq (length (after .left)) (length left) (true→T _ e) in absurd (omega arith)
+      go false e (empty same fails) rest =
+          absurd (false→fails _ e (subst (λ (x : ℕ). T (eqb (length (after .left)) x)) same
+          (eqb-refl (length (after .left)))))
+      go false e (filled-by m on fewer) rest =
+          rest (omega arith) (settle done ps left s (after .placed) (after .left) steps m on fewer)
 
   fill-items-ends : Ends (fillItems it)
   unfolding fillItems

@@ -1,4 +1,5 @@
--- What is asked of items, and what a fill and a walk then promise of them, as statements. F1 to F4 of the fill are fields of `FilledBy`.
+-- What is asked of items, and what a fill and a walk then promise of them, as statements. F1 to F4 of the fill are
+-- fields of `FilledBy`.
 use Prim.Native.Nat.{ℕ, _≤_, _<_}
 use mathlib.Core.Path.{_≡_}
 use mathlib.Core.List.{List, [], _++_, List·Memᴰ}
@@ -6,7 +7,7 @@ use mathlib.Core.Logic.{_⊎_}
 use lib.ListN.{length}
 use lib.Dec.{T}
 use Rattle.lists.specs.Lists.{headOr, Distinct}
-use Rattle.channel.specs.Constraints.{Drop, Step, netsOf, Descends}
+use Rattle.channel.specs.Constraints.{Step, netsOf, Descends}
 use Rattle.leftedge.specs.Items.{Items, Place, trackOf}
 
 -- item b is directly below item a, in column c
@@ -21,11 +22,13 @@ pub record Before (m n : ℕ) (xs : List ℕ) : Type 0 where
   pub earlier : List·Memᴰ m front
   pub later : List·Memᴰ n back
 
--- no item stands twice; what is below an item is an item; fitting after is transitive; nothing fits after what is directly below it
+-- no item stands twice; what is below an item is an item; fitting after is transitive; nothing fits after what is
+-- directly below it
 pub record Orderly (it : Items) : Type 0 where
   pub distinct : Distinct (it .order)
   pub inside : (a b c : ℕ) → List·Memᴰ a (it .order) → Falls it a b c → List·Memᴰ b (it .order)
-  pub chained : (l m n : ℕ) → List·Memᴰ m (it .order) → T (it .fitsAfter l m) → T (it .fitsAfter m n) → T (it .fitsAfter l n)
+  pub chained : (l m n : ℕ) → List·Memᴰ m (it .order) → T (it .fitsAfter l m) → T (it .fitsAfter m n)
+      → T (it .fitsAfter l n)
   pub apart : (a b c : ℕ) → Falls it a b c → T (it .fitsAfter b a) → ⊥
 
 -- a fill that ends with every item placed on one of t tracks
@@ -36,10 +39,12 @@ pub record FilledBy (it : Items) (t : ℕ) (ps : List Place) : Type 0 where
   pub used : (k : ℕ) → 1 ≤ k → k ≤ t → (n : ℕ) × List·Memᴰ n (it .order) × (trackOf ps n ≡ k)
   pub few : t ≤ length (it .order)
   -- F2: of two items on one track, one fits after the other
-  pub side : (m n : ℕ) → List·Memᴰ m (it .order) → List·Memᴰ n (it .order) → (m ≡ n → ⊥) → trackOf ps m ≡ trackOf ps n → T (it .fitsAfter m n) ⊎ T (it .fitsAfter n m)
+  pub side : (m n : ℕ) → List·Memᴰ m (it .order) → List·Memᴰ n (it .order) → (m ≡ n → ⊥) → trackOf ps m ≡ trackOf ps n
+      → T (it .fitsAfter m n) ⊎ T (it .fitsAfter n m)
   -- F3: what is directly below an item has a lower track
   pub lower : (a b c : ℕ) → List·Memᴰ a (it .order) → Falls it a b c → trackOf ps b < trackOf ps a
-  -- F4: where nothing is below anything, an item met on each lower track one that was placed before it and after which it does not fit
+  -- F4: where nothing is below anything, an item met on each lower track one that was placed before it and after which
+  -- it does not fit
   pub pressed : ((n : ℕ) → it .drops n ≡ []) → (n j : ℕ) → List·Memᴰ n (it .order) → 1 ≤ j → j < trackOf ps n
       → (m : ℕ) × List·Memᴰ m (it .order) × (trackOf ps m ≡ j) × Before m n (it .order) × (T (it .fitsAfter m n) → ⊥)
 

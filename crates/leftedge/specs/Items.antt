@@ -1,4 +1,5 @@
--- 01, "Filling tracks": what the fill is told of the items that it places, and what it says of them. Nets are one kind of item (see Nets).
+-- 01, "Filling tracks": what the fill is told of the items that it places, and what it says of them. Nets are one kind
+-- of item (see Nets).
 use Prim.Native.Nat.{ℕ}
 use mathlib.Core.List.{List, [], _∷_, map}
 use mathlib.Core.Bool.{Bool, true, cond}
@@ -7,7 +8,8 @@ use lib.Dec.{eqb}
 use Rattle.lists.specs.Lists.{anyOf, allOf}
 use Rattle.channel.specs.Constraints.{Drop}
 
--- the items in the order of the scan; whether one fits on a track after another; the steps down from each, lowest column first
+-- the items in the order of the scan; whether one fits on a track after another; the steps down from each, lowest
+-- column first
 pub record Items : Type 0 where
   pub order : List ℕ
   pub fitsAfter : ℕ → ℕ → Bool

@@ -1,5 +1,6 @@
 pub mod Items
 pub mod Fill
+pub mod FillEnds
 pub mod Walk
 pub mod Nets
 pub mod Invariants

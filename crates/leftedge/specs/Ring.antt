@@ -1,21 +1,17 @@
--- What the code of the walk keeps: for each net its lowest column over an unplaced net, and the nets that a walk down by these columns meets.
+-- What the code of the walk keeps: for each net its lowest column over an unplaced net, and the nets that a walk down
+-- by these columns meets.
 use Prim.Native.Nat.{ℕ, zero, suc, _+_, _≤_, _<_}
 use mathlib.Core.Path.{_≡_}
 use mathlib.Core.List.{List, [], _∷_, _++_, map, List·Memᴰ}
-use mathlib.Core.Bool.{Bool, _&&_}
 use lib.ListN.{length, take, getD}
 use lib.Seq.{slice}
-use lib.Dec.{eqb}
 use Rattle.lists.specs.Lists.{keep, upTo, headOr, at}
 use Rattle.channel.specs.Channel.{Channel, width}
-use Rattle.channel.specs.Constraints.{above, Step}
+use Rattle.channel.specs.Constraints.{Step}
 use Rattle.leftedge.specs.Walk.{ringNumbers}
+use Rattle.leftedge.specs.Marked.{overUnplaced}
 
--- in column c net n is above a net without a track
-unfoldable pub overUnplaced : Channel → List ℕ → ℕ → ℕ → Bool
-overUnplaced ch tracks n c = above ch n (at (ch .bot) c) c && eqb (getD tracks (at (ch .bot) c) 0) 0
-
--- the lowest such column, 0 if there is none
+-- the lowest column in which net n is above a net without a track, 0 if there is none
 unfoldable pub lowestDrop : Channel → List ℕ → ℕ → ℕ
 lowestDrop ch tracks n = headOr 0 (keep (overUnplaced ch tracks n) (upTo (width ch)))
 
@@ -60,7 +56,8 @@ pub data Visited (ns : List ℕ) (n v : ℕ) : Type 0 where
   not-yet : v ≡ 0 → (List·Memᴰ n ns → ⊥) → Visited ns n v
   visited : (i : ℕ) → v ≡ i + 1 → i < length ns → getD ns i 0 ≡ n → Visited ns n v
 
--- A walk that has come to n in so many steps: its nets are the front of `trail`, none is met again on the way, and `visits` has the place of each.
+-- A walk that has come to n in so many steps: its nets are the front of `trail`, none is met again on the way, and
+-- `visits` has the place of each.
 pub record Trail (next : ℕ → ℕ) (start : ℕ) (trail visits : List ℕ) (n steps : ℕ) : Type 0 where
   pub long : length trail ≡ 512
   pub marked : length visits ≡ 512

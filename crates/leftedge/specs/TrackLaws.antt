@@ -1,8 +1,10 @@
--- The track of each item as places are added: a new place gives its item its track and changes no other, and an item has a track exactly if it is placed.
+-- The track of each item as places are added: a new place gives its item its track and changes no other, and an item
+-- has a track exactly if it is placed.
 use Prim.Native.Nat.{ℕ, _≤_}
 use native.Mathlib.Omega.{arith}
 use mathlib.Core.Path.{_≡_, refl, sym, ap}
-use mathlib.Core.List.{List, [], _∷_, List·Memᴰ, List·Memᴰ·head, List·Memᴰ·tail, Memᴰ·map, Memᴰ·of-map, Sublistᴰ, Sublistᴰ·cons, Sublistᴰ·cons-cons}
+use mathlib.Core.List.{List, [], _∷_, List·Memᴰ, List·Memᴰ·head, List·Memᴰ·tail, Memᴰ·map, Memᴰ·of-map, Sublistᴰ}
+use mathlib.Core.List.{Sublistᴰ·cons, Sublistᴰ·cons-cons}
 use mathlib.Core.Logic.{_⊎_, inl, inr, ⊎-elim}
 use mathlib.Core.Bool.{Bool, true, false, cond, _||_}
 use lib.Dec.{T, eqb, eqb→eq, eqb-refl}
@@ -33,16 +35,19 @@ unfolding trackOf isPlaced anyOf
 tracked→placed [] n h = absurd (omega arith)
 tracked→placed (p ∷ ps) n h = go (eqb (p .item) n) h (λ k. tracked→placed ps n k)
   where
-    go : (b : Bool) → 1 ≤ cond b (p .track) (trackOf ps n) → (1 ≤ trackOf ps n → T (isPlaced ps n)) → T (b || isPlaced ps n)
+    go : (b : Bool) → 1 ≤ cond b (p .track) (trackOf ps n) → (1 ≤ trackOf ps n → T (isPlaced ps n))
+        → T (b || isPlaced ps n)
     go true h rest = tt
     go false h rest = rest h
 
 -- what `clearBelow` tells, and what it tells where it fails
-pub clear→placed : (it : Items) (ps : List Place) (a b c : ℕ) → T (clearBelow it ps a) → Falls it a b c → T (isPlaced ps b)
+pub clear→placed : (it : Items) (ps : List Place) (a b c : ℕ) → T (clearBelow it ps a) → Falls it a b c
+    → T (isPlaced ps b)
 unfolding clearBelow
 clear→placed it ps a b c h m = all→member (isPlaced ps) h (Memᴰ·map (λ d. d .lower) m)
 
-pub unclear→unplaced : (it : Items) (ps : List Place) (a : ℕ) → (T (clearBelow it ps a) → ⊥) → (b c : ℕ) × Falls it a b c × (T (isPlaced ps b) → ⊥)
+pub unclear→unplaced : (it : Items) (ps : List Place) (a : ℕ) → (T (clearBelow it ps a) → ⊥)
+    → (b c : ℕ) × Falls it a b c × (T (isPlaced ps b) → ⊥)
 unfolding clearBelow
 unclear→unplaced it ps a h =
     let r = fails→member (isPlaced ps) (itemsBelow it a) h in
@@ -57,5 +62,12 @@ nothing-below→clear it ps a e = rw e tt
 pub sublist-before : {m n : ℕ} {ns ys : List ℕ} → Sublistᴰ (m ∷ ns) ys → List·Memᴰ n ns → Before m n ys
 sublist-before (Sublistᴰ·cons {a = y} s) h =
     let r = sublist-before s h in
-    record { front = y ∷ r .front; back = r .back; split = ap (λ (l : List ℕ). y ∷ l) (r .split); earlier = List·Memᴰ·tail (r .earlier); later = r .later }
-sublist-before (Sublistᴰ·cons-cons {b = y} {l₂ = ys} e s) h = record { front = y ∷ []; back = ys; split = refl; earlier = List·Memᴰ·head e; later = sublist-member s h }
+    record {
+      front = y ∷ r .front;
+      back = r .back;
+      split = ap (λ (l : List ℕ). y ∷ l) (r .split);
+      earlier = List·Memᴰ·tail (r .earlier);
+      later = r .later;
+    }
+sublist-before (Sublistᴰ·cons-cons {b = y} {l₂ = ys} e s) h =
+    record { front = y ∷ []; back = ys; split = refl; earlier = List·Memᴰ·head e; later = sublist-member s h }

@@ -17,7 +17,8 @@ unfoldable pub fromVisit : ℕ → List Step → List Step
 fromVisit n [] = []
 fromVisit n (s ∷ ss) = let r = fromVisit n ss in cond (eqb (s .net) n) (s ∷ ss) r
 
--- the walk at item n with this trail behind it; "the ring is the walk from the first visit of the first net met again until it returns"
+-- the walk at item n with this trail behind it; "the ring is the walk from the first visit of the first net met again
+-- until it returns"
 unfoldable pub walk : ℕ → Items → List ℕ → List Step → ℕ → List Step
 walk zero it left trail n = fromVisit n trail
 walk (suc fuel) it left trail n =

@@ -5,6 +5,7 @@ mod ring;
 mod tracks;
 
 use grid::Column;
+use grid::NET_SLOTS;
 use grid::Net;
 use grid::Track;
 pub use tracks::fill_tracks;
@@ -28,5 +29,5 @@ pub enum Outcome {
 // A fill: how it ends, and the track of each net by its number, 0 where it has none.
 pub struct Filled {
     pub outcome: Outcome,
-    pub tracks: [u32; 512],
+    pub tracks: [Track; NET_SLOTS],
 }

@@ -3,22 +3,22 @@ ghost use mathlib.Core.Path.{_≡_};
 ghost use Prim.Native.Nat.{ℕ, _-_, _*_, _≤_, _<_};
 ghost use lib.ListN.{length, take, getD, replicate};
 ghost use Rattle.lists.specs.Lists.{least, overlay};
+ghost use Rattle.refusal.specs.Trays.{ringTray};
 ghost use Rattle.channel.specs.Channel.{rows};
 ghost use Rattle.channel.specs.Answers.{Escapes};
 ghost use Rattle.channel.specs.Spans.{each512};
-ghost use Rattle.leftedge.specs.Walk.{ringOf, ringNumbers};
 ghost use Rattle.leftedge.specs.Ring.{lowestDrop, netBelow, pairs, Confined, Trail};
-ghost use Rattle.leftedge.specs.Nets.{netItems};
-ghost use Rattle.leftedge.specs.Code.{WalkFrom};
+ghost use Rattle.leftedge.specs.Code.{RingShown, WalkFrom};
+use grid::NET_SLOTS;
 use grid::Net;
 
 // For each net number its lowest column that has a net without a track below it, 0 if there is none.
-fn lowest_drops(top: &[u32], bot: &[u32], tracks: &[u32; 512]) -> [u32; 512]
+fn lowest_drops(top: &[u32], bot: &[u32], tracks: &[u32; NET_SLOTS]) -> [u32; NET_SLOTS]
     requires { ⌜ Escapes (rows (now top) (now bot)) ⌝ }
     ensures { λ r.
         ⌜ r ≡ each512 (lowestDrop (rows (now (top .entry)) (now (bot .entry))) (now (tracks .entry))) ⌝ }
 {
-    let mut columns = [0u32; 512];
+    let mut columns = [0u32; NET_SLOTS];
     let mut i = top.len();
     while 0 < i {
         i -= 1;
@@ -32,7 +32,7 @@ fn lowest_drops(top: &[u32], bot: &[u32], tracks: &[u32; 512]) -> [u32; 512]
 }
 
 // The lowest of the first `count` nets of `left`.
-fn lowest_net(left: &[u32; 512], count: usize) -> Net
+fn lowest_net(left: &[u32; NET_SLOTS], count: usize) -> Net
     requires { ⌜ (0 < count) × (count ≤ 512) × (count ≤ length (now left)) ⌝ }
     ensures { λ r. ⌜ r .0 ≡ least (take count (now (left .entry))) ⌝ }
 {
@@ -53,18 +53,21 @@ struct Walked {
     steps: usize,
 }
 
-// Walks down from net `start` until a net is met again. The trail's nets stand at the front of `trail`; `visits` has for each net 1 plus
-// its place in the trail, 0 if it is not visited.
+// Walks down from net `start` until a net is met again. The trail's nets stand at the front of `trail`; `visits` has
+// for each net 1 plus its place in the trail, 0 if it is not visited.
 fn walk_down(
     bot: &[u32],
-    columns: &[u32; 512],
+    columns: &[u32; NET_SLOTS],
     start: Net,
-    trail: &mut [u32; 512],
-    visits: &mut [u32; 512],
+    trail: &mut [u32; NET_SLOTS],
+    visits: &mut [u32; NET_SLOTS],
 ) -> Walked
-    requires { ⌜ Confined (now bot) (now columns) (start .0) × (length (now trail) ≡ 512) × (now visits ≡ replicate 512 0) ⌝ }
+    requires { ⌜ Confined (now bot) (now columns) (start .0) × (length (now trail) ≡ 512)
+        × (now visits ≡ replicate 512 0) ⌝ }
     ensures { λ r.
-        ⌜ Trail (netBelow (now (bot .entry)) (now (columns .entry))) (start .0) (now (trail .exit)) (now (visits .exit)) (r .again .0) (r .steps) × (getD (now (visits .exit)) (r .again .0) 0 ≡ 0 → ⊥) ⌝ }
+        ⌜ Trail (netBelow (now (bot .entry)) (now (columns .entry))) (start .0) (now (trail .exit)) (now (visits .exit))
+        (r .again .0) (r .steps)
+        × (getD (now (visits .exit)) (r .again .0) 0 ≡ 0 → ⊥) ⌝ }
 {
     let mut n = start.0;
     let mut steps: usize = 0;
@@ -82,15 +85,18 @@ fn walk_down(
 
 // Stores the steps of the trail from place `from` on as pairs, net and column, at the front of `ring`.
 fn store_pairs(
-    trail: &[u32; 512],
-    columns: &[u32; 512],
+    trail: &[u32; NET_SLOTS],
+    columns: &[u32; NET_SLOTS],
     from: usize,
     steps: usize,
     ring: &mut [u32],
 )
-    requires { ⌜ (from ≤ steps) × (steps ≤ 512) × (steps ≤ length (now trail)) × (2 * (steps - from) ≤ length (now ring)) × ((i : ℕ) → i < steps → getD (now trail) i 0 < 512) ⌝ }
+    requires { ⌜ (from ≤ steps) × (steps ≤ 512) × (steps ≤ length (now trail))
+        × (2 * (steps - from) ≤ length (now ring))
+        × ((i : ℕ) → i < steps → getD (now trail) i 0 < 512) ⌝ }
     ensures { λ _.
-        ⌜ now (ring .exit) ≡ overlay (pairs (now (columns .entry)) (now (trail .entry)) from steps) (now (ring .entry)) ⌝ }
+        ⌜ now (ring .exit)
+        ≡ overlay (pairs (now (columns .entry)) (now (trail .entry)) from steps) (now (ring .entry)) ⌝ }
 {
     let mut i = from;
     while i < steps {
@@ -105,18 +111,19 @@ fn store_pairs(
 pub fn show_ring(
     top: &[u32],
     bot: &[u32],
-    tracks: &[u32; 512],
-    left: &[u32; 512],
+    tracks: &[u32; NET_SLOTS],
+    left: &[u32; NET_SLOTS],
     count: usize,
     ring: &mut [u32],
 ) -> u32
-    requires { ⌜ WalkFrom (rows (now top) (now bot)) (now tracks) (now left) count × (1022 ≤ length (now ring)) ⌝ }
+    requires { ⌜ WalkFrom (rows (now top) (now bot)) (now tracks) (now left) count × (ringTray ≤ length (now ring)) ⌝ }
     ensures { λ r.
-        ⌜ (r ≡ length (ringOf (netItems (rows (now (top .entry)) (now (bot .entry)))) (take count (now (left .entry))))) × (now (ring .exit) ≡ overlay (ringNumbers (ringOf (netItems (rows (now (top .entry)) (now (bot .entry)))) (take count (now (left .entry))))) (now (ring .entry))) ⌝ }
+        ⌜ RingShown (rows (now (top .entry)) (now (bot .entry))) (take count (now (left .entry))) (now (ring .entry)) r
+        (now (ring .exit)) ⌝ }
 {
     let columns = lowest_drops(top, bot, tracks);
-    let mut trail = [0u32; 512];
-    let mut visits = [0u32; 512];
+    let mut trail = [0u32; NET_SLOTS];
+    let mut visits = [0u32; NET_SLOTS];
     let walked = walk_down(
         bot,
         &columns,

@@ -1,9 +1,11 @@
--- The first and the last of those of a range that pass a test: members, and the least and the greatest of them. And a second occurrence where a number does not stand just once.
-use Prim.Native.Nat.{ℕ, zero, suc, _+_, _≤_, _<_}
+-- The first and the last of those of a range that pass a test: members, and the least and the greatest of them. And a
+-- second occurrence where a number does not stand just once.
+use Prim.Native.Nat.{ℕ, zero, suc, _≤_, _<_}
 use native.Mathlib.Omega.{arith}
 use mathlib.Core.Path.{_≡_, refl, sym, _∙_, ap, subst}
-use mathlib.Core.List.{List, [], _∷_, List·Memᴰ, List·Memᴰ·head, List·Memᴰ·tail, List·Memᴰ·cases-cons, List·Memᴰ·not-nil}
-use mathlib.Core.Logic.{_⊎_, inl, inr, ⊎-elim}
+use mathlib.Core.List.{List, [], _∷_, List·Memᴰ, List·Memᴰ·head, List·Memᴰ·tail, List·Memᴰ·cases-cons}
+use mathlib.Core.List.{List·Memᴰ·not-nil}
+use mathlib.Core.Logic.{_⊎_, ⊎-elim}
 use mathlib.Core.Bool.{Bool, true, false, cond, _&&_}
 use lib.ListN.{length, getD}
 use lib.Dec.{T, ltb, eqb, ltb→lt, eqb→eq, eqb-refl}
@@ -50,7 +52,10 @@ pub last-greatest : (xs : List ℕ) (d : ℕ) → Rising xs → {x : ℕ} → Li
 unfolding Rising lastOr
 last-greatest [] d r m = absurd (List·Memᴰ·not-nil m)
 last-greatest (y ∷ []) d r m = ⊎-elim (λ e. omega arith) (λ k. absurd (List·Memᴰ·not-nil k)) (List·Memᴰ·cases-cons m)
-last-greatest (y ∷ (z ∷ zs)) d r {x} m = ⊎-elim (λ e. let h = r .0 z (List·Memᴰ·head refl) in let l = last-greatest (z ∷ zs) y (r .1) {x = z} (List·Memᴰ·head refl) in omega arith) (λ k. last-greatest (z ∷ zs) y (r .1) k) (List·Memᴰ·cases-cons m)
+last-greatest (y ∷ (z ∷ zs)) d r {x} m =
+    ⊎-elim (λ e. let h = r .0 z (List·Memᴰ·head refl) in
+    let l = last-greatest (z ∷ zs) y (r .1) {x = z} (List·Memᴰ·head refl) in omega arith)
+    (λ k. last-greatest (z ∷ zs) y (r .1) k) (List·Memᴰ·cases-cons m)
 
 -- a place of a row, from 1, holds what stands there
 pub at-suc : (row : List ℕ) (i : ℕ) → at row (suc i) ≡ getD row i 0
@@ -85,26 +90,38 @@ pub record Elsewhere (n : ℕ) (row : List ℕ) (i : ℕ) : Type 0 where
   pub other : place ≡ i → ⊥
   pub same : getD row place 0 ≡ n
 
-pub elsewhere : (n : ℕ) (row : List ℕ) (i : ℕ) → i < length row → getD row i 0 ≡ n → (length (keep (eqb n) row) ≡ 1 → ⊥) → Elsewhere n row i
+pub elsewhere : (n : ℕ) (row : List ℕ) (i : ℕ) → i < length row → getD row i 0 ≡ n → (length (keep (eqb n) row) ≡ 1 → ⊥)
+    → Elsewhere n row i
 unfolding keep
 elsewhere n [] i h e c = absurd (omega arith)
-elsewhere n (x ∷ xs) zero h e c = further (keep (eqb n) xs) refl (subst (λ (b : Bool). length (cond b (x ∷ keep (eqb n) xs) (keep (eqb n) xs)) ≡ 1 → ⊥) (T→true (eqb n x) (subst (λ (k : ℕ). T (eqb n k)) (sym e) (eqb-refl n))) c)
+elsewhere n (x ∷ xs) zero h e c =
+    further (keep (eqb n) xs) refl (subst (λ (b : Bool). length (cond b (x ∷ keep (eqb n) xs) (keep (eqb n) xs)) ≡ 1
+    → ⊥) (T→true (eqb n x) (subst (λ (k : ℕ). T (eqb n k)) (sym e) (eqb-refl n))) c)
   where
-    further : (ys : List ℕ) → keep (eqb n) xs ≡ ys → (suc (length (keep (eqb n) xs)) ≡ 1 → ⊥) → Elsewhere n (x ∷ xs) zero
+    further : (ys : List ℕ) → keep (eqb n) xs ≡ ys → (suc (length (keep (eqb n) xs)) ≡ 1 → ⊥)
+        → Elsewhere n (x ∷ xs) zero
     further [] q k = absurd (k (ap (λ (l : List ℕ). suc (length l)) q))
     further (y ∷ ys) q k =
         let m : List·Memᴰ y (keep (eqb n) xs) = subst (λ (l : List ℕ). List·Memᴰ y l) (sym q) (List·Memᴰ·head refl) in
         let found = keep-member (eqb n) xs m in
         let r = member-at (found .0) in
         let below = r .1 in
-        record { place = suc (r .0); inRow = omega arith; other = λ z. absurd (omega arith); same = r .2 ∙ sym (eqb→eq n y (found .1)) }
+        record {
+          place = suc (r .0);
+          inRow = omega arith;
+          other = λ z. absurd (omega arith);
+          same = r .2
+              ∙ sym (eqb→eq n y (found .1));
+        }
 elsewhere n (x ∷ xs) (suc i) h e c = ⊎-elim here (λ q. there (elsewhere n xs i (omega arith) e (fewer q))) (equal? n x)
   where
     here : n ≡ x → Elsewhere n (x ∷ xs) (suc i)
     here q = record { place = 0; inRow = omega arith; other = λ z. absurd (omega arith); same = sym q }
 
     fewer : (n ≡ x → ⊥) → length (keep (eqb n) xs) ≡ 1 → ⊥
-    fewer q = subst (λ (b : Bool). length (cond b (x ∷ keep (eqb n) xs) (keep (eqb n) xs)) ≡ 1 → ⊥) (fails→false (eqb n x) (λ t. q (eqb→eq n x t))) c
+    fewer q =
+        subst (λ (b : Bool). length (cond b (x ∷ keep (eqb n) xs) (keep (eqb n) xs)) ≡ 1 → ⊥)
+        (fails→false (eqb n x) (λ t. q (eqb→eq n x t))) c
 
     there : Elsewhere n xs i → Elsewhere n (x ∷ xs) (suc i)
     there r =
@@ -120,7 +137,10 @@ rises (x ∷ xs) = allOf (ltb x) xs && rises xs
 pub rises→ : (xs : List ℕ) → T (rises xs) → Rising xs
 unfolding Rising rises
 rises→ [] t = tt
-rises→ (x ∷ xs) t = (λ y m. ltb→lt x y (all→member (ltb x) (and-left (allOf (ltb x) xs) (rises xs) t) m), rises→ xs (and-right (allOf (ltb x) xs) (rises xs) t))
+rises→ (x ∷ xs) t = (
+  λ y m. ltb→lt x y (all→member (ltb x) (and-left (allOf (ltb x) xs) (rises xs) t) m),
+  rises→ xs (and-right (allOf (ltb x) xs) (rises xs) t),
+)
 
 -- a rising list repeats nothing
 pub rising-distinct : (xs : List ℕ) → Rising xs → Distinct xs

@@ -3,10 +3,10 @@ use Prim.Native.Nat.{ℕ, zero, suc, _+_, _≤_, _<_}
 use native.Mathlib.Omega.{arith}
 use mathlib.Core.Path.{_≡_, refl, subst}
 use mathlib.Core.List.{List, [], _∷_}
-use mathlib.Core.Logic.{_⊎_, inl, inr, ⊎-elim}
+use mathlib.Core.Logic.{_⊎_, ⊎-elim}
 use mathlib.Core.Bool.{Bool, true, false, cond}
 use lib.Dec.{T}
-use Rattle.lists.specs.Lists.{keep, from, upTo, Lowest}
+use Rattle.lists.specs.Lists.{keep, from, Lowest}
 use Rattle.lists.specs.Tests.{true→T, false→fails, equal?}
 
 -- k is one of the n numbers from a on, and passes
@@ -30,7 +30,13 @@ first-kept f a (suc n) = go (f a) refl (first-kept f (suc a) n)
   where
     later : (k : ℕ) → f a ≡ false → Passing f a (suc n) k → Passing f (suc a) n k
     later k e h =
-        record { low = ⊎-elim (λ q. absurd (false→fails (f a) e (subst (λ (m : ℕ). T (f m)) q (h .passes)))) (λ apart. let l = h .low in omega (arith, apart)) (equal? k a); high = let u = h .high in omega arith; passes = h .passes }
+        record {
+          low = ⊎-elim (λ q. absurd (false→fails (f a) e (subst (λ (m : ℕ). T (f m)) q (h .passes))))
+              (λ apart. let l = h .low in omega (arith, apart)) (equal? k a);
+          high = let u = h .high in
+              omega arith;
+          passes = h .passes;
+        }
 
     past : {rest : List ℕ} → f a ≡ false → FirstKept f (suc a) n rest → FirstKept f a (suc n) rest
     past e (no-one none) = no-one (λ k h. none k (later k e h))
@@ -38,8 +44,16 @@ first-kept f a (suc n) = go (f a) refl (first-kept f (suc a) n)
         let h = least .holds in
         let l = h .low in
         let u = h .high in
-        begins p (record { holds = record { low = omega arith; high = omega arith; passes = h .passes }; lowest = λ q k. least .lowest q (later q e k) })
+        begins p (record {
+          holds = record { low = omega arith; high = omega arith; passes = h .passes };
+          lowest = λ q k. least .lowest q (later q e k);
+        })
 
-    go : (b : Bool) → f a ≡ b → {rest : List ℕ} → FirstKept f (suc a) n rest → FirstKept f a (suc n) (cond b (a ∷ rest) rest)
-    go true e rest = begins a (record { holds = record { low = omega arith; high = omega arith; passes = true→T (f a) e }; lowest = λ q h. h .low })
+    go : (b : Bool) → f a ≡ b → {rest : List ℕ} → FirstKept f (suc a) n rest
+        → FirstKept f a (suc n) (cond b (a ∷ rest) rest)
+    go true e rest =
+        begins a (record {
+          holds = record { low = omega arith; high = omega arith; passes = true→T (f a) e };
+          lowest = λ q h. h .low;
+        })
     go false e rest = past e rest

@@ -1,4 +1,5 @@
--- The greatest of what a function gives for the members of a list: none gives more, and if it is not 0 then one of them gives it.
+-- The greatest of what a function gives for the members of a list: none gives more, and if it is not 0 then one of them
+-- gives it.
 use Prim.Native.Nat.{ℕ, max, _≤_, _<_}
 use native.Mathlib.Omega.{arith}
 use native.Mathlib.Decide.{decLe}
@@ -9,7 +10,8 @@ use Rattle.lists.specs.Lists.{greatest}
 module _ {A : Type 0} (f : A → ℕ) where
   pub greatest-map-upper : {xs : List A} {x : A} → List·Memᴰ x xs → f x ≤ greatest (map f xs)
   unfolding greatest
-  greatest-map-upper {xs = y ∷ ys} {x = x} (List·Memᴰ·head e) = subst (λ (z : A). f x ≤ max (f z) (greatest (map f ys))) e (omega arith)
+  greatest-map-upper {xs = y ∷ ys} {x = x} (List·Memᴰ·head e) =
+      subst (λ (z : A). f x ≤ max (f z) (greatest (map f ys))) e (omega arith)
   greatest-map-upper {xs = y ∷ ys} (List·Memᴰ·tail m) = let h = greatest-map-upper m in omega arith
 
   pub greatest-map-least : (xs : List A) (k : ℕ) → ((x : A) → List·Memᴰ x xs → f x ≤ k) → greatest (map f xs) ≤ k
@@ -20,8 +22,14 @@ module _ {A : Type 0} (f : A → ℕ) where
       let rest = greatest-map-least ys k (λ x m. h x (List·Memᴰ·tail m)) in
       omega arith
 
-  pub greatest-map-reached : (xs : List A) → 0 < greatest (map f xs) → (x : A) × List·Memᴰ x xs × (f x ≡ greatest (map f xs))
+  pub greatest-map-reached : (xs : List A) → 0 < greatest (map f xs)
+      → (x : A) × List·Memᴰ x xs × (f x ≡ greatest (map f xs))
   unfolding greatest
   greatest-map-reached [] h = absurd (omega arith)
   greatest-map-reached (y ∷ ys) h =
-      elim (decLe (greatest (map f ys)) (f y)) [ yes l ↦ (y, List·Memᴰ·head refl, omega arith) | no l ↦ (let r = greatest-map-reached ys (omega arith) in let e = r .2 in (r .0, List·Memᴰ·tail (r .1), omega arith)) ]
+      elim (decLe (greatest (map f ys)) (f y)) [
+        | yes l ↦ (y, List·Memᴰ·head refl, omega arith)
+        | no l ↦
+            (let r = greatest-map-reached ys (omega arith) in let e = r .2 in
+            (r .0, List·Memᴰ·tail (r .1), omega arith))
+      ]

@@ -17,3 +17,5 @@ pub mod Arrays
 pub mod Updates
 pub mod Stores
 pub mod Overlays
+pub mod Runs
+pub mod Maps

@@ -1,4 +1,5 @@
--- The list vocabulary that the definitions of every part share. Places in a row are counted from 1, as columns and pin positions are.
+-- The list vocabulary that the definitions of every part share. Places in a row are counted from 1, as columns and pin
+-- positions are.
 use Prim.Native.Nat.{ℕ, zero, suc, min, max, _≤_}
 use mathlib.Core.Path.{_≡_}
 use mathlib.Core.List.{List, [], _∷_, _++_}

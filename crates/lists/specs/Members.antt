@@ -1,14 +1,13 @@
 -- Membership in the lists that `keep`, `each`, `from` make, and what `anyOf`, `allOf`, `isIn` tell of it.
 use Prim.Native.Nat.{ℕ, zero, suc, _+_, _≤_, _<_}
 use native.Mathlib.Omega.{arith}
-use native.Mathlib.Nat.{add-suc, add-zero}
-use mathlib.Core.Path.{_≡_, refl, sym, _∙_, ap, subst}
-use mathlib.Core.List.{List, [], _∷_, _++_, List·Memᴰ, List·Memᴰ·head, List·Memᴰ·tail, List·Memᴰ·not-nil, List·Memᴰ·cases-cons, List·Memᴰ·append-cases, Memᴰ·append-left, Memᴰ·append-right, Memᴰ·cast}
-use mathlib.Core.Logic.{_⊎_, inl, inr, ⊎-elim}
-use mathlib.Core.Bool.{Bool, true, false, cond, _&&_, _||_, not}
-use lib.ListN.{length}
+use mathlib.Core.Path.{_≡_, refl, sym, subst}
+use mathlib.Core.List.{List, [], _∷_, List·Memᴰ, List·Memᴰ·head, List·Memᴰ·tail, List·Memᴰ·not-nil}
+use mathlib.Core.List.{List·Memᴰ·cases-cons, List·Memᴰ·append-cases, Memᴰ·append-left, Memᴰ·append-right, Memᴰ·cast}
+use mathlib.Core.Logic.{_⊎_, ⊎-elim}
+use mathlib.Core.Bool.{Bool, true, false, cond}
 use lib.Dec.{T, eqb, eqb→eq, eqb-refl}
-use Rattle.lists.specs.Lists.{keep, each, anyOf, allOf, isIn, from, upTo, headOr, Lowest}
+use Rattle.lists.specs.Lists.{keep, each, anyOf, allOf, isIn, from, upTo}
 use Rattle.lists.specs.Tests.{and-left, and-right, and-both, or-cases, or-left, or-right, true→T, equal?}
 
 module _ {A : Type 0} where
@@ -18,9 +17,11 @@ module _ {A : Type 0} where
   keep-member f [] h = absurd (List·Memᴰ·not-nil h)
   keep-member f (y ∷ ys) {x} h = go (f y) refl h (λ k. keep-member f ys k)
     where
-      go : (b : Bool) → f y ≡ b → List·Memᴰ x (cond b (y ∷ keep f ys) (keep f ys)) → (List·Memᴰ x (keep f ys) → List·Memᴰ x ys × T (f x)) → List·Memᴰ x (y ∷ ys) × T (f x)
+      go : (b : Bool) → f y ≡ b → List·Memᴰ x (cond b (y ∷ keep f ys) (keep f ys))
+          → (List·Memᴰ x (keep f ys) → List·Memᴰ x ys × T (f x)) → List·Memᴰ x (y ∷ ys) × T (f x)
       go true e k rest =
-          ⊎-elim (λ q. (List·Memᴰ·head q, subst (λ (z : A). T (f z)) (sym q) (true→T (f y) e))) (λ m. let r = rest m in (List·Memᴰ·tail (r .0), r .1)) (List·Memᴰ·cases-cons k)
+          ⊎-elim (λ q. (List·Memᴰ·head q, subst (λ (z : A). T (f z)) (sym q) (true→T (f y) e)))
+          (λ m. let r = rest m in (List·Memᴰ·tail (r .0), r .1)) (List·Memᴰ·cases-cons k)
       go false e k rest = let r = rest k in (List·Memᴰ·tail (r .0), r .1)
 
   pub kept : (f : A → Bool) {xs : List A} {x : A} → List·Memᴰ x xs → T (f x) → List·Memᴰ x (keep f xs)
@@ -40,7 +41,8 @@ module _ {A : Type 0} where
   unfolding anyOf
   any→member f [] h = absurd h
   any→member f (y ∷ ys) h =
-      ⊎-elim (λ k. (y, List·Memᴰ·head refl, k)) (λ k. let r = any→member f ys k in (r .0, List·Memᴰ·tail (r .1), r .2)) (or-cases (f y) (anyOf f ys) h)
+      ⊎-elim (λ k. (y, List·Memᴰ·head refl, k)) (λ k. let r = any→member f ys k in (r .0, List·Memᴰ·tail (r .1), r .2))
+      (or-cases (f y) (anyOf f ys) h)
 
   pub member→any : (f : A → Bool) {xs : List A} {x : A} → List·Memᴰ x xs → T (f x) → T (anyOf f xs)
   unfolding anyOf
@@ -49,23 +51,29 @@ module _ {A : Type 0} where
 
   pub all→member : (f : A → Bool) {xs : List A} {x : A} → T (allOf f xs) → List·Memᴰ x xs → T (f x)
   unfolding allOf
-  all→member f {xs = y ∷ ys} {x = x} h (List·Memᴰ·head e) = subst (λ (z : A). T (f z)) (sym e) (and-left (f y) (allOf f ys) h)
+  all→member f {xs = y ∷ ys} {x = x} h (List·Memᴰ·head e) =
+      subst (λ (z : A). T (f z)) (sym e) (and-left (f y) (allOf f ys) h)
   all→member f {xs = y ∷ ys} h (List·Memᴰ·tail m) = all→member f (and-right (f y) (allOf f ys) h) m
 
   pub members→all : (f : A → Bool) (xs : List A) → ((x : A) → List·Memᴰ x xs → T (f x)) → T (allOf f xs)
   unfolding allOf
   members→all f [] h = tt
-  members→all f (y ∷ ys) h = and-both (f y) (allOf f ys) (h y (List·Memᴰ·head refl)) (members→all f ys (λ x m. h x (List·Memᴰ·tail m)))
+  members→all f (y ∷ ys) h =
+      and-both (f y) (allOf f ys) (h y (List·Memᴰ·head refl)) (members→all f ys (λ x m. h x (List·Memᴰ·tail m)))
 
-  pub each-member : {B : Type 0} (f : A → List B) (xs : List A) {y : B} → List·Memᴰ y (each f xs) → (x : A) × List·Memᴰ x xs × List·Memᴰ y (f x)
+  pub each-member : {B : Type 0} (f : A → List B) (xs : List A) {y : B} → List·Memᴰ y (each f xs)
+      → (x : A) × List·Memᴰ x xs × List·Memᴰ y (f x)
   unfolding each
   each-member f [] h = absurd (List·Memᴰ·not-nil h)
   each-member f (x ∷ xs) h =
-      ⊎-elim (λ k. (x, List·Memᴰ·head refl, k)) (λ k. let r = each-member f xs k in (r .0, List·Memᴰ·tail (r .1), r .2)) (List·Memᴰ·append-cases (f x) h)
+      ⊎-elim (λ k. (x, List·Memᴰ·head refl, k)) (λ k. let r = each-member f xs k in (r .0, List·Memᴰ·tail (r .1), r .2))
+      (List·Memᴰ·append-cases (f x) h)
 
-  pub in-each : {B : Type 0} (f : A → List B) {xs : List A} {x : A} {y : B} → List·Memᴰ x xs → List·Memᴰ y (f x) → List·Memᴰ y (each f xs)
+  pub in-each : {B : Type 0} (f : A → List B) {xs : List A} {x : A} {y : B} → List·Memᴰ x xs → List·Memᴰ y (f x)
+      → List·Memᴰ y (each f xs)
   unfolding each
-  in-each f {xs = z ∷ zs} {y = y} (List·Memᴰ·head e) k = Memᴰ·append-left (each f zs) (subst (λ w. List·Memᴰ y (f w)) e k)
+  in-each f {xs = z ∷ zs} {y = y} (List·Memᴰ·head e) k =
+      Memᴰ·append-left (each f zs) (subst (λ w. List·Memᴰ y (f w)) e k)
   in-each f {xs = z ∷ zs} (List·Memᴰ·tail m) k = Memᴰ·append-right (f z) (in-each f m k)
 
 -- `isIn` is membership
@@ -79,12 +87,15 @@ member→isIn {n} m = member→any (eqb n) m (eqb-refl n)
 pub from-member : (a n : ℕ) {k : ℕ} → List·Memᴰ k (from a n) → (a ≤ k) × (k < a + n)
 unfolding from
 from-member a zero h = absurd (List·Memᴰ·not-nil h)
-from-member a (suc n) h = ⊎-elim (λ e. omega arith) (λ m. let r = from-member (suc a) n m in omega arith) (List·Memᴰ·cases-cons h)
+from-member a (suc n) h =
+    ⊎-elim (λ e. omega arith) (λ m. let r = from-member (suc a) n m in omega arith) (List·Memᴰ·cases-cons h)
 
 pub in-from : (a n k : ℕ) → a ≤ k → k < a + n → List·Memᴰ k (from a n)
 unfolding from
 in-from a zero k h₁ h₂ = absurd (omega arith)
-in-from a (suc n) k h₁ h₂ = ⊎-elim List·Memᴰ·head (λ apart. List·Memᴰ·tail (in-from (suc a) n k (omega (arith, apart)) (omega arith))) (equal? k a)
+in-from a (suc n) k h₁ h₂ =
+    ⊎-elim List·Memᴰ·head (λ apart. List·Memᴰ·tail (in-from (suc a) n k (omega (arith, apart)) (omega arith)))
+    (equal? k a)
 
 pub upTo-member : (n : ℕ) {k : ℕ} → List·Memᴰ k (upTo n) → (1 ≤ k) × (k ≤ n)
 upTo-member n m = let r = from-member 1 n m in omega arith

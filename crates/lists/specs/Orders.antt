@@ -3,7 +3,8 @@ use Prim.Native.Nat.{ℕ, min, _≤_}
 use native.Mathlib.Omega.{arith}
 use native.Mathlib.Decide.{decLe}
 use mathlib.Core.Path.{_≡_, refl, sym, _∙_}
-use mathlib.Core.List.{List, [], _∷_, List·Memᴰ, List·Memᴰ·head, List·Memᴰ·tail, List·Memᴰ·cases-cons, Memᴰ·cast, Sublistᴰ, Sublistᴰ·slnil, Sublistᴰ·cons, Sublistᴰ·cons-cons}
+use mathlib.Core.List.{List, [], _∷_, List·Memᴰ, List·Memᴰ·head, List·Memᴰ·tail, List·Memᴰ·cases-cons, Memᴰ·cast}
+use mathlib.Core.List.{Sublistᴰ, Sublistᴰ·slnil, Sublistᴰ·cons, Sublistᴰ·cons-cons}
 use mathlib.Core.Logic.{_⊎_, inl, inr, ⊎-elim}
 use mathlib.Core.Bool.{Bool}
 use lib.ListN.{length}
@@ -20,7 +21,8 @@ module _ {A : Type 0} where
   pub sublist-member : {xs ys : List A} {x : A} → Sublistᴰ xs ys → List·Memᴰ x xs → List·Memᴰ x ys
   sublist-member Sublistᴰ·slnil m = m
   sublist-member (Sublistᴰ·cons s) m = List·Memᴰ·tail (sublist-member s m)
-  sublist-member (Sublistᴰ·cons-cons e s) m = ⊎-elim (λ q. List·Memᴰ·head (q ∙ e)) (λ k. List·Memᴰ·tail (sublist-member s k)) (List·Memᴰ·cases-cons m)
+  sublist-member (Sublistᴰ·cons-cons e s) m =
+      ⊎-elim (λ q. List·Memᴰ·head (q ∙ e)) (λ k. List·Memᴰ·tail (sublist-member s k)) (List·Memᴰ·cases-cons m)
 
   pub sublist-tail : {x : A} {xs ys : List A} → Sublistᴰ (x ∷ xs) ys → Sublistᴰ xs ys
   sublist-tail (Sublistᴰ·cons s) = Sublistᴰ·cons (sublist-tail s)
@@ -36,13 +38,15 @@ module _ {A : Type 0} where
   unfolding allOf
   fails→member f [] h = absurd (h tt)
   fails→member f (y ∷ ys) h =
-      ⊎-elim (λ t. let r = fails→member f ys (λ k. h (and-both (f y) (allOf f ys) t k)) in (r .0, List·Memᴰ·tail (r .1), r .2)) (λ k. (y, List·Memᴰ·head refl, k)) (passes? (f y))
+      ⊎-elim (λ t. let r = fails→member f ys (λ k. h (and-both (f y) (allOf f ys) t k)) in
+      (r .0, List·Memᴰ·tail (r .1), r .2)) (λ k. (y, List·Memᴰ·head refl, k)) (passes? (f y))
 
 pub sublist-distinct : {xs ys : List ℕ} → Sublistᴰ xs ys → Distinct ys → Distinct xs
 sublist-distinct Sublistᴰ·slnil d = d
 sublist-distinct (Sublistᴰ·cons {a = y} {l₂ = ys} s) d = sublist-distinct s (distinct-tail y ys d)
 sublist-distinct (Sublistᴰ·cons-cons {a = x} {b = y} {l₁ = xs} {l₂ = ys} e s) d =
-    distinct-cons x xs (λ m. distinct-head y ys d (Memᴰ·cast (sym e) (sublist-member s m))) (sublist-distinct s (distinct-tail y ys d))
+    distinct-cons x xs (λ m. distinct-head y ys d (Memᴰ·cast (sym e) (sublist-member s m)))
+    (sublist-distinct s (distinct-tail y ys d))
 
 min-cases : (a b : ℕ) → (min a b ≡ a) ⊎ (min a b ≡ b)
 min-cases a b = elim (decLe a b) [ yes h ↦ inl (omega arith) | no h ↦ inr (omega arith) ]

@@ -31,7 +31,8 @@ module _ {A : Type 0} where
     place-map (y ∷ ys) zero {x} e = let q : y ≡ x = cc in cc
     place-map (y ∷ ys) (suc i) e = place-map ys i e
 
-    pub place-of-map : (xs : List A) (i : ℕ) {y : B} → getElem? (map f xs) i ≡ some y → (x : A) × (getElem? xs i ≡ some x) × (f x ≡ y)
+    pub place-of-map : (xs : List A) (i : ℕ) {y : B} → getElem? (map f xs) i ≡ some y
+        → (x : A) × (getElem? xs i ≡ some x) × (f x ≡ y)
     place-of-map [] i e = absurd (let z : _≡_ {A = ℕ} 0 1 = cc in omega arith)
     place-of-map (x ∷ xs) zero {y} e = let q : f x ≡ y = cc in (x, refl, q)
     place-of-map (x ∷ xs) (suc i) e = place-of-map xs i e
@@ -42,7 +43,8 @@ module _ {A : Type 0} where
   keep-keep f g [] = refl
   keep-keep f g (x ∷ xs) = go (g x) (keep-keep f g xs)
     where
-      go : (b : Bool) {rest : List A} → keep f (keep g xs) ≡ rest → keep f (cond b (x ∷ keep g xs) (keep g xs)) ≡ cond (b && f x) (x ∷ rest) rest
+      go : (b : Bool) {rest : List A} → keep f (keep g xs) ≡ rest
+          → keep f (cond b (x ∷ keep g xs) (keep g xs)) ≡ cond (b && f x) (x ∷ rest) rest
       go true e = rw e
       go false e = e
 

@@ -1,4 +1,5 @@
--- Lists by their places: a member stands at some place, and what stands at a place is a member; where nothing is kept, and how long `each` is.
+-- Lists by their places: a member stands at some place, and what stands at a place is a member; where nothing is kept,
+-- and how long `each` is.
 use Prim.Native.Nat.{ℕ, zero, suc, _*_, _<_}
 use native.Mathlib.Omega.{arith}
 use mathlib.Core.Path.{_≡_, refl, sym, ap, subst}
@@ -36,17 +37,22 @@ module _ {A : Type 0} where
   pub fails→none-kept : (f : A → Bool) (xs : List A) → ((x : A) → List·Memᴰ x xs → T (f x) → ⊥) → keep f xs ≡ []
   fails→none-kept f xs h = no-member→empty (keep f xs) (λ x m. let r = keep-member f xs m in h x (r .0) (r .1))
 
-  pub length-each : {B : Type 0} (n : ℕ) (f : A → List B) (xs : List A) → ((x : A) → length (f x) ≡ n) → length (each f xs) ≡ n * length xs
+  pub length-each : {B : Type 0} (n : ℕ) (f : A → List B) (xs : List A) → ((x : A) → length (f x) ≡ n)
+      → length (each f xs) ≡ n * length xs
   unfolding each
   length-each n f [] h = omega arith
-  length-each n f (x ∷ xs) h = let r = length-each n f xs h in let e = h x in omega (arith, length-append (f x) (each f xs))
+  length-each n f (x ∷ xs) h =
+      let r = length-each n f xs h in let e = h x in omega (arith, length-append (f x) (each f xs))
 
   -- keeping after `map` is keeping before it
-  pub length-keep-map : {B : Type 0} (f : B → Bool) (g : A → B) (xs : List A) → length (keep f (map g xs)) ≡ length (keep (λ x. f (g x)) xs)
+  pub length-keep-map : {B : Type 0} (f : B → Bool) (g : A → B) (xs : List A)
+      → length (keep f (map g xs)) ≡ length (keep (λ x. f (g x)) xs)
   unfolding keep
   length-keep-map f g [] = refl
   length-keep-map f g (x ∷ xs) = go (f (g x)) (length-keep-map f g xs)
     where
-      go : (b : Bool) → length (keep f (map g xs)) ≡ length (keep (λ y. f (g y)) xs) → length (cond b (g x ∷ keep f (map g xs)) (keep f (map g xs))) ≡ length (cond b (x ∷ keep (λ y. f (g y)) xs) (keep (λ y. f (g y)) xs))
+      go : (b : Bool) → length (keep f (map g xs)) ≡ length (keep (λ y. f (g y)) xs)
+          → length (cond b (g x ∷ keep f (map g xs)) (keep f (map g xs))) ≡ length
+          (cond b (x ∷ keep (λ y. f (g y)) xs) (keep (λ y. f (g y)) xs))
       go true e = ap suc e
       go false e = e

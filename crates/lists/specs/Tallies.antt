@@ -1,4 +1,5 @@
--- The first of the numbers 1 to n that passes a test, as one number that is 0 if there is none; and how many are kept of two lists put end to end.
+-- The first of the numbers 1 to n that passes a test, as one number that is 0 if there is none; and how many are kept
+-- of two lists put end to end.
 use Prim.Native.Nat.{ℕ, zero, suc, _+_, _≤_}
 use native.Mathlib.Omega.{arith}
 use mathlib.Core.Path.{_≡_, refl, _∙_, ap}
@@ -50,18 +51,21 @@ module _ {A : Type 0} where
   pub keep-same : (f g : A → Bool) (xs : List A) → ((x : A) → List·Memᴰ x xs → f x ≡ g x) → keep f xs ≡ keep g xs
   unfolding keep
   keep-same f g [] h = refl
-  keep-same f g (x ∷ xs) h = let r = keep-same f g xs (λ y m. h y (List·Memᴰ·tail m)) in let e = h x (List·Memᴰ·head refl) in rw (e, r)
+  keep-same f g (x ∷ xs) h =
+      let r = keep-same f g xs (λ y m. h y (List·Memᴰ·tail m)) in let e = h x (List·Memᴰ·head refl) in rw (e, r)
 
   pub keep-append : (f : A → Bool) (xs ys : List A) → keep f (xs ++ ys) ≡ keep f xs ++ keep f ys
   unfolding keep
   keep-append f [] ys = refl
   keep-append f (x ∷ xs) ys = go (f x) (keep-append f xs ys)
     where
-      go : (b : Bool) {rest : List A} → rest ≡ keep f xs ++ keep f ys → cond b (x ∷ rest) rest ≡ cond b (x ∷ keep f xs) (keep f xs) ++ keep f ys
+      go : (b : Bool) {rest : List A} → rest ≡ keep f xs ++ keep f ys
+          → cond b (x ∷ rest) rest ≡ cond b (x ∷ keep f xs) (keep f xs) ++ keep f ys
       go true e = rw e
       go false e = e
 
-  pub length-keep-append : (f : A → Bool) (xs ys : List A) → length (keep f (xs ++ ys)) ≡ length (keep f xs) + length (keep f ys)
+  pub length-keep-append : (f : A → Bool) (xs ys : List A)
+      → length (keep f (xs ++ ys)) ≡ length (keep f xs) + length (keep f ys)
   length-keep-append f xs ys = ap length (keep-append f xs ys) ∙ length-append (keep f xs) (keep f ys)
 
 -- a store of a number within a bound leaves a place within the bound

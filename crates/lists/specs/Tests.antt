@@ -1,10 +1,10 @@
 -- What a Boolean test tells: its two cases, and those of a test that is put together of others.
-use Prim.Native.Nat.{ℕ, _≤_, _<_}
+use Prim.Native.Nat.{ℕ, _≤_}
 use native.Mathlib.Decide.{ℕ-discrete}
 use mathlib.Core.Path.{_≡_, refl, sym, subst}
-use mathlib.Core.Bool.{Bool, true, false, cond, _&&_, _||_, not}
+use mathlib.Core.Bool.{Bool, true, false, _&&_, _||_, not}
 use mathlib.Core.Logic.{_⊎_, inl, inr}
-use lib.Dec.{T, leb, leb→le, le→leb}
+use lib.Dec.{T, leb, eqb, leb→le, le→leb, eqb-refl}
 use Rattle.lists.specs.Lists.{within}
 
 -- a test that passes is true, and the other way round
@@ -14,6 +14,16 @@ T→true false h = absurd h
 
 pub true→T : (b : Bool) → b ≡ true → T b
 true→T b e = subst T (sym e) tt
+
+-- two tests that pass together are the same
+pub same-test : (a b : Bool) → (T a → T b) → (T b → T a) → a ≡ b
+same-test true true h k = refl
+same-test true false h k = absurd (h tt)
+same-test false true h k = absurd (k tt)
+same-test false false h k = refl
+
+pub eq→T : (a b : ℕ) → a ≡ b → T (eqb a b)
+eq→T a b e = subst (λ (k : ℕ). T (eqb a k)) e (eqb-refl a)
 
 pub fails→false : (b : Bool) → (T b → ⊥) → b ≡ false
 fails→false true h = absurd (h tt)

@@ -1,4 +1,5 @@
--- Arrays and ranges that change by one number: a store in an array by number, what `keep` has of a range that is one number longer, and the greatest with one member more.
+-- Arrays and ranges that change by one number: a store in an array by number, what `keep` has of a range that is one
+-- number longer, and the greatest with one member more.
 use Prim.Native.Nat.{ℕ, max, _+_, _<_}
 use native.Mathlib.Omega.{arith}
 use native.Mathlib.Numerals.{add-one}
@@ -22,15 +23,21 @@ map-same f g (x ∷ xs) h =
     let rest = map-same f g xs (λ y m. h y (List·Memᴰ·tail m)) in
     cc
 
--- a store at place j of what f gives makes what g gives, if g gives the new number for j and differs from f nowhere else
-pub set-gives : (f g : ℕ → ℕ) (m j v : ℕ) → j < m → g j ≡ v → ((k : ℕ) → k < m → (k ≡ j → ⊥) → f k ≡ g k) → set (map f (from 0 m)) j v ≡ map g (from 0 m)
+-- a store at place j of what f gives makes what g gives, if g gives the new number for j and differs from f nowhere
+-- else
+pub set-gives : (f g : ℕ → ℕ) (m j v : ℕ) → j < m → g j ≡ v → ((k : ℕ) → k < m → (k ≡ j → ⊥) → f k ≡ g k)
+    → set (map f (from 0 m)) j v ≡ map g (from 0 m)
 set-gives f g m j v inside here there =
-    set-numbered f m j v inside ∙ numbered-same _ g m (λ k below. ⊎-elim (λ e. rw (eq-eqb k j e) (sym here ∙ ap g (sym e))) (λ apart. rw (ne-eqb k j apart) (there k below apart)) (equal? k j))
+    set-numbered f m j v inside ∙ numbered-same _ g m
+    (λ k below. ⊎-elim (λ e. rw (eq-eqb k j e) (sym here ∙ ap g (sym e)))
+    (λ apart. rw (ne-eqb k j apart) (there k below apart)) (equal? k j))
 
 -- of a range that is one number longer `keep` keeps that number at the end, or skips it
 module _ (f : ℕ → Bool) (k : ℕ) where
   pub keep-next : keep f (upTo (k + 1)) ≡ keep f (upTo k) ++ keep f ((k + 1) ∷ [])
-  keep-next = ap (keep f) (ap upTo (add-one k) ∙ (from-snoc 1 k ∙ ap (λ (j : ℕ). upTo k ++ (j ∷ [])) (omega arith))) ∙ keep-append f (upTo k) ((k + 1) ∷ [])
+  keep-next =
+      ap (keep f) (ap upTo (add-one k) ∙ (from-snoc 1 k ∙ ap (λ (j : ℕ). upTo k ++ (j ∷ [])) (omega arith)))
+      ∙ keep-append f (upTo k) ((k + 1) ∷ [])
 
   pub keep-next-passes : T (f (k + 1)) → keep f (upTo (k + 1)) ≡ keep f (upTo k) ++ ((k + 1) ∷ [])
   unfolding keep
@@ -38,9 +45,12 @@ module _ (f : ℕ → Bool) (k : ℕ) where
 
   pub keep-next-fails : (T (f (k + 1)) → ⊥) → keep f (upTo (k + 1)) ≡ keep f (upTo k)
   unfolding keep
-  keep-next-fails t = keep-next ∙ (ap (λ (b : Bool). keep f (upTo k) ++ cond b ((k + 1) ∷ []) []) (fails→false (f (k + 1)) t) ∙ append-nil (keep f (upTo k)))
+  keep-next-fails t =
+      keep-next ∙ (ap (λ (b : Bool). keep f (upTo k) ++ cond b ((k + 1) ∷ []) []) (fails→false (f (k + 1)) t)
+      ∙ append-nil (keep f (upTo k)))
 
-pub greatest-map-last : {A : Type 0} (f : A → ℕ) (xs : List A) (x : A) → greatest (map f (xs ++ (x ∷ []))) ≡ max (greatest (map f xs)) (f x)
+pub greatest-map-last : {A : Type 0} (f : A → ℕ) (xs : List A) (x : A)
+    → greatest (map f (xs ++ (x ∷ []))) ≡ max (greatest (map f xs)) (f x)
 unfolding greatest
 greatest-map-last f [] x = omega arith
 greatest-map-last f (y ∷ ys) x = let rest = greatest-map-last f ys x in omega arith

@@ -34,7 +34,8 @@ textRefusal text = garbledRefusal (readText text) or-else rowsRefusal (textChann
 -- 1 to 6, where rows of these lengths are lent
 unfoldable pub readRefusal : List ℕ → ℕ → ℕ → Option Refusal
 readRefusal text lentTop lentBot =
-    shortTray (record { lent = lentTop; needed = rowTray } ∷ record { lent = lentBot; needed = rowTray } ∷ []) or-else textRefusal text
+    shortTray (record { lent = lentTop; needed = rowTray } ∷ record { lent = lentBot; needed = rowTray } ∷ []) or-else
+    textRefusal text
 
 unfoldable pub readAnswer : List ℕ → ℕ → ℕ → ReadAnswer
 readAnswer text lentTop lentBot = answered Refused (readRefusal text lentTop lentBot) (Width (width (textChannel text)))

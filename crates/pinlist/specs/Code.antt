@@ -1,12 +1,17 @@
 -- What the parts of the reader's code answer, over the automaton of Reader.
-use Prim.Native.Nat.{ℕ, suc, _+_, _-_, _*_, min}
+use Prim.Native.Nat.{ℕ, suc, _+_, _-_, _*_, _≤_, min}
 use mathlib.Core.Path.{_≡_}
 use mathlib.Core.List.{List, [], _∷_, map}
 use mathlib.Core.Bool.{cond}
+use mathlib.Core.Logic.{_↔_}
 use lib.ListN.{length, take, drop}
 use lib.Dec.{eqb}
 use Rattle.lists.specs.Lists.{within, overlay}
+use Rattle.refusal.specs.declared.Refusal.the-variants.{Garbled}
+use Rattle.refusal.specs.Trays.{rowTray}
+use Rattle.channel.specs.Channel.{highestNet, widest}
 use Rattle.pinlist.specs.declared.ReadAnswer.{ReadAnswer}
+use Rattle.pinlist.specs.declared.ReadAnswer.the-variants.{Refused}
 use Rattle.pinlist.specs.declared.TextRead.{TextRead}
 use Rattle.pinlist.specs.declared.TextRead.the-variants as text
 use Rattle.pinlist.specs.declared.line.LineRead.{LineRead}
@@ -16,15 +21,19 @@ use Rattle.pinlist.specs.declared.number.NumberRead.the-variants as numb
 use Rattle.pinlist.specs.Reader as reader
 use Rattle.pinlist.specs.Reader.{Stand, due, on, closed, stuck, lineStep, readText}
 use Rattle.pinlist.specs.Answers.{readAnswer, topAfter, botAfter}
+use Rattle.pinlist.specs.Form.{GarbledAt}
+use Rattle.pinlist.specs.Promise.{ReadExactly}
 
--- numbers over 511 are kept as 512: they are refused, whatever they are
+-- a number over the highest net's is kept as one more than that: it is refused, whatever it is
 abbrev pub kept : ℕ → ℕ
-kept n = min n 512
+kept n = min n (suc highestNet)
 
 -- the digits from a place on, behind a number that is kept as v
 unfoldable pub digitsBehind : ℕ → ℕ → List ℕ → NumberRead
 digitsBehind v k [] = number.Number v k
-digitsBehind v k (b ∷ bs) = let r = digitsBehind (kept (v * 10 + (b - 48))) (suc k) bs in cond (within 48 b 57) r (number.Number v k)
+digitsBehind v k (b ∷ bs) =
+    let r = digitsBehind (kept (v * 10 + (b - 48))) (suc k) bs in
+    cond (within 48 b 57) r (number.Number v k)
 
 unfoldable pub numberFrom : ℕ → List ℕ → NumberRead
 numberFrom k [] = number.Missing
@@ -48,7 +57,9 @@ pub data Lined : Type 0 where
 
 unfoldable pub lineFrom : Stand → List ℕ → ℕ → List ℕ → Lined
 lineFrom s ns k [] = broken k
-lineFrom s ns k (b ∷ bs) = elim (lineStep s ns b) [ on s′ ns′ ↦ lineFrom s′ ns′ (suc k) bs | closed ns′ ↦ lined ns′ (suc k) | stuck ↦ broken k ]
+lineFrom s ns k (b ∷ bs) =
+    elim (lineStep s ns b)
+    [ on s′ ns′ ↦ lineFrom s′ ns′ (suc k) bs | closed ns′ ↦ lined ns′ (suc k) | stuck ↦ broken k ]
 
 unfoldable pub lineRead : Lined → LineRead
 lineRead (lined ns k) = line.Line (length ns) k
@@ -57,7 +68,8 @@ lineRead (broken k) = line.Stuck k
 -- what reading a line into a row answers and leaves: of a whole line the row's front is its first 512 numbers
 pub record LineDone (word text : List ℕ) (at : ℕ) (row : List ℕ) (r : LineRead) (row′ : List ℕ) : Type 0 where
   pub answer : r ≡ lineRead (lineFrom (due word) [] at (drop at text))
-  pub held : (ns : List ℕ) (k : ℕ) → lineFrom (due word) [] at (drop at text) ≡ lined ns k → row′ ≡ overlay (take 512 (map kept ns)) row
+  pub held : (ns : List ℕ) (k : ℕ) → lineFrom (due word) [] at (drop at text) ≡ lined ns k
+      → row′ ≡ overlay (take widest (map kept ns)) row
 
 unfoldable pub textRead : reader.TextRead → TextRead
 textRead (reader.rows top bot) = text.Rows (length top) (length bot)
@@ -66,12 +78,16 @@ textRead (reader.garbled n) = text.Garbled n
 -- what reading a whole text into two arrays answers and leaves
 pub record Parsed (input top bot : List ℕ) (r : TextRead) (top′ bot′ : List ℕ) : Type 0 where
   pub answer : r ≡ textRead (readText input)
-  pub topHeld : (ts bs : List ℕ) → readText input ≡ reader.rows ts bs → top′ ≡ overlay (take 512 (map kept ts)) top
-  pub botHeld : (ts bs : List ℕ) → readText input ≡ reader.rows ts bs → bot′ ≡ overlay (take 512 (map kept bs)) bot
+  pub topHeld : (ts bs : List ℕ) → readText input ≡ reader.rows ts bs → top′ ≡ overlay (take widest (map kept ts)) top
+  pub botHeld : (ts bs : List ℕ) → readText input ≡ reader.rows ts bs → bot′ ≡ overlay (take widest (map kept bs)) bot
 
--- What `read` answers, and what the lent rows then hold. Rules out: a place one too large for garbled (answer); rows written before the
--- check (topHeld, botHeld); refusal 5 before 4 (answer).
+-- What `read` answers, and what the lent rows then hold. Rules out: a place one too large for garbled (garbled); rows
+-- written before the check (topHeld, botHeld); refusal 5 before 4 (answer).
 pub record ReadDone (input top bot : List ℕ) (r : ReadAnswer) (top′ bot′ : List ℕ) : Type 0 where
   pub answer : r ≡ readAnswer input (length top) (length bot)
   pub topHeld : top′ ≡ topAfter input top bot
   pub botHeld : bot′ ≡ botAfter input top bot
+  -- demand 1: the rows read are those of exactly the texts of the form, and every other text is garbled at its place
+  pub exactly : ReadExactly input
+  pub garbled : rowTray ≤ length top → rowTray ≤ length bot → (n : ℕ)
+      → (r ≡ Refused (Garbled n)) ↔ GarbledAt input n

@@ -1,4 +1,5 @@
--- The reader's parts over the automaton: a number, a word and a whole line, each as the code meets it at a place of the text.
+-- The reader's parts over the automaton: a number, a word and a whole line, each as the code meets it at a place of the
+-- text.
 use Prim.Native.Nat.{ℕ, zero, suc, _+_, _-_, _*_, _≤_, _<_}
 use native.Mathlib.Omega.{arith}
 use native.Mathlib.Numerals.{add-one}
@@ -29,28 +30,43 @@ pub number-none : (text : List ℕ) (at : ℕ) → length text ≤ at → number
 unfolding numberFrom
 number-none text at h = rw (drop-of-length-le text h)
 
-pub number-zero : (text : List ℕ) (at : ℕ) → at < length text → getD text at 0 ≡ 48 → numberRead text at ≡ number.Number 0 (at + 1)
+pub number-zero : (text : List ℕ) (at : ℕ) → at < length text → getD text at 0 ≡ 48
+    → numberRead text at ≡ number.Number 0 (at + 1)
 unfolding numberFrom
 number-zero text at h e = rw (add-one, drop-cons text at 0, eq-eqb (getD text at 0) 48 e)
 
-pub number-other : (text : List ℕ) (at : ℕ) → at < length text → ((48 ≤ getD text at 0) × (getD text at 0 ≤ 57) → ⊥) → numberRead text at ≡ number.Missing
+pub number-other : (text : List ℕ) (at : ℕ) → at < length text → ((48 ≤ getD text at 0) × (getD text at 0 ≤ 57) → ⊥)
+    → numberRead text at ≡ number.Missing
 unfolding numberFrom
 number-other text at h k =
-    rw (drop-cons text at 0, ne-eqb (getD text at 0) 48 (λ e. k (omega arith)), outside-false 49 (getD text at 0) 57 (λ w. k (omega arith)))
+    rw (
+      drop-cons text at 0,
+      ne-eqb (getD text at 0) 48 (λ e. k (omega arith)),
+      outside-false 49 (getD text at 0) 57 (λ w. k (omega arith)),
+    )
 
-pub number-digit : (text : List ℕ) (at : ℕ) → at < length text → 49 ≤ getD text at 0 → getD text at 0 ≤ 57 → numberRead text at ≡ digitsBehind (getD text at 0 - 48) (at + 1) (drop (at + 1) text)
+pub number-digit : (text : List ℕ) (at : ℕ) → at < length text → 49 ≤ getD text at 0 → getD text at 0 ≤ 57
+    → numberRead text at ≡ digitsBehind (getD text at 0 - 48) (at + 1) (drop (at + 1) text)
 unfolding numberFrom
-number-digit text at h l u = rw (add-one, drop-cons text at 0, ne-eqb (getD text at 0) 48 (λ e. omega arith), inside-true 49 (getD text at 0) 57 l u)
+number-digit text at h l u =
+    rw (
+      add-one,
+      drop-cons text at 0,
+      ne-eqb (getD text at 0) 48 (λ e. omega arith),
+      inside-true 49 (getD text at 0) 57 l u,
+    )
 
 pub digits-end : (text : List ℕ) (v k : ℕ) → length text ≤ k → digitsBehind v k (drop k text) ≡ number.Number v k
 unfolding digitsBehind
 digits-end text v k h = rw (drop-of-length-le text h)
 
-pub digits-stop : (text : List ℕ) (v k : ℕ) → k < length text → ((48 ≤ getD text k 0) × (getD text k 0 ≤ 57) → ⊥) → digitsBehind v k (drop k text) ≡ number.Number v k
+pub digits-stop : (text : List ℕ) (v k : ℕ) → k < length text → ((48 ≤ getD text k 0) × (getD text k 0 ≤ 57) → ⊥)
+    → digitsBehind v k (drop k text) ≡ number.Number v k
 unfolding digitsBehind
 digits-stop text v k h e = rw (drop-cons text k 0, outside-false 48 (getD text k 0) 57 e)
 
-pub digits-more : (text : List ℕ) (v k : ℕ) → k < length text → 48 ≤ getD text k 0 → getD text k 0 ≤ 57 → digitsBehind v k (drop k text) ≡ digitsBehind (kept (v * 10 + (getD text k 0 - 48))) (k + 1) (drop (k + 1) text)
+pub digits-more : (text : List ℕ) (v k : ℕ) → k < length text → 48 ≤ getD text k 0 → getD text k 0 ≤ 57
+    → digitsBehind v k (drop k text) ≡ digitsBehind (kept (v * 10 + (getD text k 0 - 48))) (k + 1) (drop (k + 1) text)
 unfolding digitsBehind
 digits-more text v k h l u = rw (add-one, drop-cons text k 0, inside-true 48 (getD text k 0) 57 l u)
 
@@ -61,12 +77,20 @@ SharedTo word text at i = shared word (drop at text) ≡ i + shared (drop i word
 pub shared-first : (word text : List ℕ) (at : ℕ) → SharedTo word text at 0
 shared-first word text at = rw (add-zero, zero-add)
 
-pub shared-next : (word text : List ℕ) (at i : ℕ) → i < length word → at + i < length text → getD text (at + i) 0 ≡ getD word i 0 → SharedTo word text at i → SharedTo word text at (i + 1)
+pub shared-next : (word text : List ℕ) (at i : ℕ) → i < length word → at + i < length text
+    → getD text (at + i) 0 ≡ getD word i 0 → SharedTo word text at i → SharedTo word text at (i + 1)
 unfolding shared
 shared-next word text at i h l e s = let r = same in omega arith
   where
     same : shared (drop i word) (drop (at + i) text) ≡ suc (shared (drop (i + 1) word) (drop (at + (i + 1)) text))
-    same = rw (add-one i, add-suc at i, drop-cons word i 0, drop-cons text (at + i) 0, eq-eqb (getD text (at + i) 0) (getD word i 0) e)
+    same =
+        rw (
+          add-one i,
+          add-suc at i,
+          drop-cons word i 0,
+          drop-cons text (at + i) 0,
+          eq-eqb (getD text (at + i) 0) (getD word i 0) e,
+        )
 
 -- the three ways in which the word ends: where the text does, at another byte, or whole
 shared-nothing : (word : List ℕ) → shared word [] ≡ 0
@@ -74,44 +98,64 @@ unfolding shared
 shared-nothing [] = refl
 shared-nothing (w ∷ ws) = refl
 
-shared-ends : (word text : List ℕ) (at i : ℕ) → shared (drop i word) (drop (at + i) text) ≡ 0 → SharedTo word text at i → i ≡ shared word (drop at text)
+shared-ends : (word text : List ℕ) (at i : ℕ) → shared (drop i word) (drop (at + i) text) ≡ 0 → SharedTo word text at i
+    → i ≡ shared word (drop at text)
 shared-ends word text at i e s = omega arith
 
-pub shared-cut : (word text : List ℕ) (at i : ℕ) → length text ≤ at + i → SharedTo word text at i → i ≡ shared word (drop at text)
-shared-cut word text at i h = shared-ends word text at i (ap (shared (drop i word)) (drop-of-length-le text h) ∙ shared-nothing (drop i word))
+pub shared-cut : (word text : List ℕ) (at i : ℕ) → length text ≤ at + i → SharedTo word text at i
+    → i ≡ shared word (drop at text)
+shared-cut word text at i h =
+    shared-ends word text at i (ap (shared (drop i word)) (drop-of-length-le text h) ∙ shared-nothing (drop i word))
 
-pub shared-differs : (word text : List ℕ) (at i : ℕ) → i < length word → at + i < length text → (getD text (at + i) 0 ≡ getD word i 0 → ⊥) → SharedTo word text at i → i ≡ shared word (drop at text)
+pub shared-differs : (word text : List ℕ) (at i : ℕ) → i < length word → at + i < length text
+    → (getD text (at + i) 0 ≡ getD word i 0 → ⊥) → SharedTo word text at i → i ≡ shared word (drop at text)
 unfolding shared
-shared-differs word text at i h l e = shared-ends word text at i (rw (drop-cons word i 0, drop-cons text (at + i) 0, ne-eqb (getD text (at + i) 0) (getD word i 0) e))
+shared-differs word text at i h l e =
+    shared-ends word text at i (rw (
+      drop-cons word i 0,
+      drop-cons text (at + i) 0,
+      ne-eqb (getD text (at + i) 0) (getD word i 0) e,
+    ))
 
-pub shared-whole : (word text : List ℕ) (at i : ℕ) → length word ≤ i → SharedTo word text at i → i ≡ shared word (drop at text)
+pub shared-whole : (word text : List ℕ) (at i : ℕ) → length word ≤ i → SharedTo word text at i
+    → i ≡ shared word (drop at text)
 unfolding shared
 shared-whole word text at i h = shared-ends word text at i (rw (drop-of-length-le word h))
 
 -- one byte of a line, by what the automaton does with it
-line-on : (s s′ : Stand) (ns ns′ : List ℕ) (b k : ℕ) (bs : List ℕ) → lineStep s ns b ≡ on s′ ns′ → lineFrom s ns k (b ∷ bs) ≡ lineFrom s′ ns′ (suc k) bs
+line-on : (s s′ : Stand) (ns ns′ : List ℕ) (b k : ℕ) (bs : List ℕ) → lineStep s ns b ≡ on s′ ns′
+    → lineFrom s ns k (b ∷ bs) ≡ lineFrom s′ ns′ (suc k) bs
 unfolding lineFrom
 line-on s s′ ns ns′ b k bs e = rw (e, lineFrom)
 
-line-stuck : (s : Stand) (ns : List ℕ) (b k : ℕ) (bs : List ℕ) → lineStep s ns b ≡ stuck → lineFrom s ns k (b ∷ bs) ≡ broken k
+line-stuck : (s : Stand) (ns : List ℕ) (b k : ℕ) (bs : List ℕ) → lineStep s ns b ≡ stuck
+    → lineFrom s ns k (b ∷ bs) ≡ broken k
 unfolding lineFrom
 line-stuck s ns b k bs e = rw (e, lineFrom)
 
 -- the line from behind the number n, of which the byte at k is no further digit
 unfoldable pub behind : ℕ → List ℕ → ℕ → List ℕ → Lined
 behind n ns k [] = broken k
-behind n ns k (b ∷ bs) = elim (afterNumber n ns b) [ on s′ ns′ ↦ lineFrom s′ ns′ (suc k) bs | closed ns′ ↦ lined ns′ (suc k) | stuck ↦ broken k ]
+behind n ns k (b ∷ bs) =
+    elim (afterNumber n ns b) [
+      | on s′ ns′ ↦ lineFrom s′ ns′ (suc k) bs
+      | closed ns′ ↦ lined ns′ (suc k)
+      | stuck ↦
+          broken k
+    ]
 
 zero-behind : (ns : List ℕ) (k : ℕ) (bs : List ℕ) → lineFrom zeroRead ns k bs ≡ behind 0 ns k bs
 unfolding lineFrom lineStep behind
 zero-behind ns k [] = refl
 zero-behind ns k (b ∷ bs) = refl
 
-digits-behind : (n : ℕ) (ns : List ℕ) (b k : ℕ) (bs : List ℕ) → within 48 b 57 ≡ false → lineFrom (digits n) ns k (b ∷ bs) ≡ behind n ns k (b ∷ bs)
+digits-behind : (n : ℕ) (ns : List ℕ) (b k : ℕ) (bs : List ℕ) → within 48 b 57 ≡ false
+    → lineFrom (digits n) ns k (b ∷ bs) ≡ behind n ns k (b ∷ bs)
 unfolding lineFrom lineStep behind
 digits-behind n ns b k bs e = rw (e, lineFrom)
 
-digit-on : (n : ℕ) (ns : List ℕ) (b : ℕ) → within 48 b 57 ≡ true → lineStep (digits n) ns b ≡ on (digits (n * 10 + (b - 48))) ns
+digit-on : (n : ℕ) (ns : List ℕ) (b : ℕ) → within 48 b 57 ≡ true
+    → lineStep (digits n) ns b ≡ on (digits (n * 10 + (b - 48))) ns
 unfolding lineStep
 digit-on n ns b e = rw e
 
@@ -142,24 +186,40 @@ drop-inside (x ∷ xs) zero b bs e = omega arith
 drop-inside (x ∷ xs) (suc k) b bs e = let h = drop-inside xs k b bs e in omega arith
 
 -- behind digits that have the value n, kept as v: the exact number grows beside the kept one
-digits-tell : (text ns : List ℕ) (from v n k : ℕ) (bs : List ℕ) → v ≡ kept n → from < k → k ≤ length text → drop k text ≡ bs → Tells text ns from (lineFrom (digits n) ns k bs) (digitsBehind v k bs)
+digits-tell : (text ns : List ℕ) (from v n k : ℕ) (bs : List ℕ) → v ≡ kept n → from < k → k ≤ length text
+    → drop k text ≡ bs → Tells text ns from (lineFrom (digits n) ns k bs) (digitsBehind v k bs)
 unfolding digitsBehind lineFrom behind
 digits-tell text ns from v n k [] e l i q = record { number = n; as-kept = e; later = l; inside = i; goes-on = rw q }
 digits-tell text ns from v n k (b ∷ bs) e l i q =
-    let more : Tells text ns from (lineFrom (digits (n * 10 + (b - 48))) ns (suc k) bs) (digitsBehind (kept (v * 10 + (b - 48))) (suc k) bs)
-    = digits-tell text ns from (kept (v * 10 + (b - 48))) (n * 10 + (b - 48)) (suc k) bs (omega arith) (omega arith) (drop-inside text k b bs q) (drop-next text k b bs q) in
+    let more : Tells text ns from (lineFrom (digits (n * 10 + (b - 48))) ns (suc k) bs)
+    (digitsBehind (kept (v * 10 + (b - 48))) (suc k) bs)
+    = digits-tell text ns from (kept (v * 10 + (b - 48))) (n * 10 + (b - 48)) (suc k) bs (omega arith) (omega arith)
+    (drop-inside text k b bs q) (drop-next text k b bs q) in
     go (within 48 b 57) refl more
   where
-    go : (t : Bool) → within 48 b 57 ≡ t → Tells text ns from (lineFrom (digits (n * 10 + (b - 48))) ns (suc k) bs) (digitsBehind (kept (v * 10 + (b - 48))) (suc k) bs)
-        → Tells text ns from (lineFrom (digits n) ns k (b ∷ bs)) (cond t (digitsBehind (kept (v * 10 + (b - 48))) (suc k) bs) (number.Number v k))
-    go true t more = subst (λ (line : Lined). Tells text ns from line (digitsBehind (kept (v * 10 + (b - 48))) (suc k) bs)) (sym (line-on (digits n) (digits (n * 10 + (b - 48))) ns ns b k bs (digit-on n ns b t))) more
-    go false t more = record { number = n; as-kept = e; later = l; inside = i; goes-on = digits-behind n ns b k bs t ∙ ap (behind n ns k) (sym q) }
+    go : (t : Bool) → within 48 b 57 ≡ t → Tells text ns from (lineFrom (digits (n * 10 + (b - 48))) ns (suc k) bs)
+        (digitsBehind (kept (v * 10 + (b - 48))) (suc k) bs)
+        → Tells text ns from (lineFrom (digits n) ns k (b ∷ bs))
+        (cond t (digitsBehind (kept (v * 10 + (b - 48))) (suc k) bs) (number.Number v k))
+    go true t more =
+        subst (λ (line : Lined). Tells text ns from line (digitsBehind (kept (v * 10 + (b - 48))) (suc k) bs))
+        (sym (line-on (digits n) (digits (n * 10 + (b - 48))) ns ns b k bs (digit-on n ns b t))) more
+    go false t more =
+        record {
+          number = n;
+          as-kept = e;
+          later = l;
+          inside = i;
+          goes-on = digits-behind n ns b k bs t
+              ∙ ap (behind n ns k) (sym q);
+        }
 
 zero-on : (ns : List ℕ) (b : ℕ) → eqb b 48 ≡ true → lineStep (due []) ns b ≡ on zeroRead ns
 unfolding lineStep
 zero-on ns b e = rw e
 
-first-on : (ns : List ℕ) (b : ℕ) → eqb b 48 ≡ false → within 49 b 57 ≡ true → lineStep (due []) ns b ≡ on (digits (b - 48)) ns
+first-on : (ns : List ℕ) (b : ℕ) → eqb b 48 ≡ false → within 49 b 57 ≡ true
+    → lineStep (due []) ns b ≡ on (digits (b - 48)) ns
 unfolding lineStep
 first-on ns b e h = rw (e, h)
 
@@ -167,7 +227,8 @@ first-stuck : (ns : List ℕ) (b : ℕ) → eqb b 48 ≡ false → within 49 b 5
 unfolding lineStep
 first-stuck ns b e h = rw (e, h)
 
-number-from : (text ns : List ℕ) (k : ℕ) (bs : List ℕ) → k ≤ length text → drop k text ≡ bs → Tells text ns k (lineFrom (due []) ns k bs) (numberFrom k bs)
+number-from : (text ns : List ℕ) (k : ℕ) (bs : List ℕ) → k ≤ length text → drop k text ≡ bs
+    → Tells text ns k (lineFrom (due []) ns k bs) (numberFrom k bs)
 unfolding numberFrom lineFrom
 number-from text ns k [] i q = refl
 number-from text ns k (b ∷ bs) i q = go (eqb b 48) refl (within 49 b 57) refl
@@ -178,17 +239,28 @@ number-from text ns k (b ∷ bs) i q = go (eqb b 48) refl (within 49 b 57) refl
     inside : suc k ≤ length text
     inside = drop-inside text k b bs q
 
-    go : (t : Bool) → eqb b 48 ≡ t → (u : Bool) → within 49 b 57 ≡ u → Tells text ns k (lineFrom (due []) ns k (b ∷ bs)) (cond t (number.Number 0 (suc k)) (cond u (digitsBehind (b - 48) (suc k) bs) number.Missing))
+    go : (t : Bool) → eqb b 48 ≡ t → (u : Bool) → within 49 b 57 ≡ u
+        → Tells text ns k (lineFrom (due []) ns k (b ∷ bs))
+        (cond t (number.Number 0 (suc k)) (cond u (digitsBehind (b - 48) (suc k) bs) number.Missing))
     go true t u v =
-        record { number = 0; as-kept = refl; later = omega arith; inside = inside; goes-on = line-on (due []) zeroRead ns ns b k bs (zero-on ns b t) ∙ (zero-behind ns (suc k) bs ∙ ap (behind 0 ns (suc k)) (sym after)) }
+        record {
+          number = 0;
+          as-kept = refl;
+          later = omega arith;
+          inside = inside;
+          goes-on = line-on (due []) zeroRead ns ns b k bs (zero-on ns b t)
+              ∙ (zero-behind ns (suc k) bs ∙ ap (behind 0 ns (suc k)) (sym after));
+        }
     go false t true v =
         let w = within→ 49 b 57 (true→T (within 49 b 57) v) in
-        subst (λ (line : Lined). Tells text ns k line (digitsBehind (b - 48) (suc k) bs)) (sym (line-on (due []) (digits (b - 48)) ns ns b k bs (first-on ns b t v)))
+        subst (λ (line : Lined). Tells text ns k line (digitsBehind (b - 48) (suc k) bs))
+        (sym (line-on (due []) (digits (b - 48)) ns ns b k bs (first-on ns b t v)))
         (digits-tell text ns k (b - 48) (b - 48) (suc k) bs (omega arith) (omega arith) inside after)
     go false t false v = line-stuck (due []) ns b k bs (first-stuck ns b t v)
 
 -- the number that is read where a digit is due says how the line goes on
-pub number-tells : (text ns : List ℕ) (k : ℕ) → k ≤ length text → Tells text ns k (lineFrom (due []) ns k (drop k text)) (numberRead text k)
+pub number-tells : (text ns : List ℕ) (k : ℕ) → k ≤ length text
+    → Tells text ns k (lineFrom (due []) ns k (drop k text)) (numberRead text k)
 number-tells text ns k h = number-from text ns k (drop k text) h refl
 
 -- behind a number: the end of the text, a line feed, a space, or another byte
@@ -196,17 +268,22 @@ pub behind-end : (n : ℕ) (ns text : List ℕ) (j : ℕ) → length text ≤ j 
 unfolding behind
 behind-end n ns text j h = rw (drop-of-length-le text h)
 
-pub behind-feed : (n : ℕ) (ns text : List ℕ) (j : ℕ) → j < length text → getD text j 0 ≡ 10 → behind n ns j (drop j text) ≡ lined (ns ++ (n ∷ [])) (suc j)
+pub behind-feed : (n : ℕ) (ns text : List ℕ) (j : ℕ) → j < length text → getD text j 0 ≡ 10
+    → behind n ns j (drop j text) ≡ lined (ns ++ (n ∷ [])) (suc j)
 unfolding behind afterNumber
-behind-feed n ns text j h e = rw (drop-cons text j 0, ne-eqb (getD text j 0) 32 (λ q. omega arith), eq-eqb (getD text j 0) 10 e, behind)
+behind-feed n ns text j h e =
+    rw (drop-cons text j 0, ne-eqb (getD text j 0) 32 (λ q. omega arith), eq-eqb (getD text j 0) 10 e, behind)
 
-pub behind-space : (n : ℕ) (ns text : List ℕ) (j : ℕ) → j < length text → getD text j 0 ≡ 32 → behind n ns j (drop j text) ≡ lineFrom (due []) (ns ++ (n ∷ [])) (suc j) (drop (suc j) text)
+pub behind-space : (n : ℕ) (ns text : List ℕ) (j : ℕ) → j < length text → getD text j 0 ≡ 32
+    → behind n ns j (drop j text) ≡ lineFrom (due []) (ns ++ (n ∷ [])) (suc j) (drop (suc j) text)
 unfolding behind afterNumber
 behind-space n ns text j h e = rw (drop-cons text j 0, eq-eqb (getD text j 0) 32 e, behind)
 
-pub behind-other : (n : ℕ) (ns text : List ℕ) (j : ℕ) → j < length text → (getD text j 0 ≡ 10 → ⊥) → (getD text j 0 ≡ 32 → ⊥) → behind n ns j (drop j text) ≡ broken j
+pub behind-other : (n : ℕ) (ns text : List ℕ) (j : ℕ) → j < length text → (getD text j 0 ≡ 10 → ⊥)
+    → (getD text j 0 ≡ 32 → ⊥) → behind n ns j (drop j text) ≡ broken j
 unfolding behind afterNumber
-behind-other n ns text j h e f = rw (drop-cons text j 0, ne-eqb (getD text j 0) 32 f, ne-eqb (getD text j 0) 10 e, behind)
+behind-other n ns text j h e f =
+    rw (drop-cons text j 0, ne-eqb (getD text j 0) 32 f, ne-eqb (getD text j 0) 10 e, behind)
 
 -- a word that stands whole is passed, and any other breaks the line where it ends
 due-on : (d : ℕ) (ds ns : List ℕ) (b : ℕ) → eqb b d ≡ true → lineStep (due (d ∷ ds)) ns b ≡ on (due ds) ns
@@ -217,24 +294,35 @@ due-stuck : (d : ℕ) (ds ns : List ℕ) (b : ℕ) → eqb b d ≡ false → lin
 unfolding lineStep
 due-stuck d ds ns b e = rw e
 
-pub word-passed : (ds ns : List ℕ) (k : ℕ) (bs : List ℕ) → shared ds bs ≡ length ds → lineFrom (due ds) ns k bs ≡ lineFrom (due []) ns (k + length ds) (drop (length ds) bs)
+pub word-passed : (ds ns : List ℕ) (k : ℕ) (bs : List ℕ) → shared ds bs ≡ length ds
+    → lineFrom (due ds) ns k bs ≡ lineFrom (due []) ns (k + length ds) (drop (length ds) bs)
 unfolding shared
 word-passed [] ns k bs h = rw add-zero
 word-passed (d ∷ ds) ns k [] h = absurd (omega arith)
 word-passed (d ∷ ds) ns k (b ∷ bs) h = go (eqb b d) refl h (λ q. word-passed ds ns (suc k) bs q)
   where
-    go : (t : Bool) → eqb b d ≡ t → cond t (suc (shared ds bs)) 0 ≡ suc (length ds) → (shared ds bs ≡ length ds → lineFrom (due ds) ns (suc k) bs ≡ lineFrom (due []) ns (suc k + length ds) (drop (length ds) bs)) → lineFrom (due (d ∷ ds)) ns k (b ∷ bs) ≡ lineFrom (due []) ns (k + suc (length ds)) (drop (length ds) bs)
-    go true t q more = line-on (due (d ∷ ds)) (due ds) ns ns b k bs (due-on d ds ns b t) ∙ (more (omega arith) ∙ ap (λ (j : ℕ). lineFrom (due []) ns j (drop (length ds) bs)) (omega arith))
+    go : (t : Bool) → eqb b d ≡ t → cond t (suc (shared ds bs)) 0 ≡ suc (length ds)
+        → (shared ds bs ≡ length ds → lineFrom (due ds) ns (suc k) bs ≡ lineFrom (due []) ns (suc k + length ds)
+        (drop (length ds) bs)) → lineFrom (due (d ∷ ds)) ns k (b ∷ bs) ≡ lineFrom (due []) ns (k + suc (length ds))
+        (drop (length ds) bs)
+    go true t q more =
+        line-on (due (d ∷ ds)) (due ds) ns ns b k bs (due-on d ds ns b t)
+        ∙ (more (omega arith) ∙ ap (λ (j : ℕ). lineFrom (due []) ns j (drop (length ds) bs)) (omega arith))
     go false t q more = absurd (omega arith)
 
-pub word-broken : (ds ns : List ℕ) (k : ℕ) (bs : List ℕ) → shared ds bs < length ds → lineFrom (due ds) ns k bs ≡ broken (k + shared ds bs)
+pub word-broken : (ds ns : List ℕ) (k : ℕ) (bs : List ℕ) → shared ds bs < length ds
+    → lineFrom (due ds) ns k bs ≡ broken (k + shared ds bs)
 unfolding shared lineFrom
 word-broken [] ns k bs h = absurd (omega arith)
 word-broken (d ∷ ds) ns k [] h = rw add-zero
 word-broken (d ∷ ds) ns k (b ∷ bs) h = go (eqb b d) refl h (λ q. word-broken ds ns (suc k) bs q)
   where
-    go : (t : Bool) → eqb b d ≡ t → cond t (suc (shared ds bs)) 0 < suc (length ds) → (shared ds bs < length ds → lineFrom (due ds) ns (suc k) bs ≡ broken (suc k + shared ds bs)) → lineFrom (due (d ∷ ds)) ns k (b ∷ bs) ≡ broken (k + cond t (suc (shared ds bs)) 0)
-    go true t q more = line-on (due (d ∷ ds)) (due ds) ns ns b k bs (due-on d ds ns b t) ∙ (more (omega arith) ∙ ap broken (omega arith))
+    go : (t : Bool) → eqb b d ≡ t → cond t (suc (shared ds bs)) 0 < suc (length ds)
+        → (shared ds bs < length ds → lineFrom (due ds) ns (suc k) bs ≡ broken (suc k + shared ds bs))
+        → lineFrom (due (d ∷ ds)) ns k (b ∷ bs) ≡ broken (k + cond t (suc (shared ds bs)) 0)
+    go true t q more =
+        line-on (due (d ∷ ds)) (due ds) ns ns b k bs (due-on d ds ns b t)
+        ∙ (more (omega arith) ∙ ap broken (omega arith))
     go false t q more = line-stuck (due (d ∷ ds)) ns b k bs (due-stuck d ds ns b t) ∙ ap broken (omega arith)
 
 pub shared-within : (ds bs : List ℕ) → (shared ds bs ≤ length ds) × (shared ds bs ≤ length bs)
@@ -243,17 +331,25 @@ shared-within [] bs = (omega arith, omega arith)
 shared-within (d ∷ ds) [] = (omega arith, omega arith)
 shared-within (d ∷ ds) (b ∷ bs) = go (eqb b d) (shared-within ds bs)
   where
-    go : (t : Bool) → (shared ds bs ≤ length ds) × (shared ds bs ≤ length bs) → (cond t (suc (shared ds bs)) 0 ≤ suc (length ds)) × (cond t (suc (shared ds bs)) 0 ≤ suc (length bs))
+    go : (t : Bool) → (shared ds bs ≤ length ds) × (shared ds bs ≤ length bs)
+        → (cond t (suc (shared ds bs)) 0 ≤ suc (length ds)) × (cond t (suc (shared ds bs)) 0 ≤ suc (length bs))
     go true h = omega arith
     go false h = (omega arith, omega arith)
 
 -- a line ends within the text
-pub lined-within : (s : Stand) (ns : List ℕ) (k : ℕ) (bs : List ℕ) {row : List ℕ} {j : ℕ} → lineFrom s ns k bs ≡ lined row j → j ≤ k + length bs
+pub lined-within : (s : Stand) (ns : List ℕ) (k : ℕ) (bs : List ℕ) {row : List ℕ} {j : ℕ}
+    → lineFrom s ns k bs ≡ lined row j → j ≤ k + length bs
 unfolding lineFrom
 lined-within s ns k [] e = absurd (let z : _≡_ {A = ℕ} 0 1 = cc in omega arith)
 lined-within s ns k (b ∷ bs) {row} {j} e = go (lineStep s ns b) e (λ s′ ns′ q. lined-within s′ ns′ (suc k) bs q)
   where
-    go : (o : LineStep) → elim o [ on s′ ns′ ↦ lineFrom s′ ns′ (suc k) bs | closed ns′ ↦ lined ns′ (suc k) | stuck ↦ broken k ] ≡ lined row j → ((s′ : Stand) (ns′ : List ℕ) → lineFrom s′ ns′ (suc k) bs ≡ lined row j → j ≤ suc k + length bs) → j ≤ k + suc (length bs)
+    go : (o : LineStep) → elim o [
+      | on s′ ns′ ↦ lineFrom s′ ns′ (suc k) bs
+      | closed ns′ ↦ lined ns′ (suc k)
+      | stuck ↦
+          broken k
+    ] ≡ lined row j → ((s′ : Stand) (ns′ : List ℕ) → lineFrom s′ ns′ (suc k) bs ≡ lined row j
+        → j ≤ suc k + length bs) → j ≤ k + suc (length bs)
     go (on s′ ns′) q more = let h = more s′ ns′ q in omega arith
     go (closed ns′) q more = let r : suc k ≡ j = cc in omega arith
     go stuck q more = absurd (let z : _≡_ {A = ℕ} 0 1 = cc in omega arith)

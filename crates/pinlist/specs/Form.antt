@@ -16,10 +16,11 @@ LineEnd s = s ≡ 0x0A ∷ []
 -- "one or more of: one space and a number"
 pub data Numbers : List ℕ → List ℕ → Type 0 where
   one : (gap : List ℕ) (n : ℕ) → Gap gap → Numbers (gap ++ decimal n) (n ∷ [])
-  more : (gap : List ℕ) (n : ℕ) {text ns : List ℕ} → Gap gap → Numbers text ns → Numbers (gap ++ (decimal n ++ text)) (n ∷ ns)
+  more : (gap : List ℕ) (n : ℕ) {text ns : List ℕ} → Gap gap → Numbers text ns
+      → Numbers (gap ++ (decimal n ++ text)) (n ∷ ns)
 
--- "Two lines, TOP then BOT. Each is the word, then one or more of: one space and a number; then one line feed. Nothing follows":
--- the text is a pin list of these two rows
+-- "Two lines, TOP then BOT. Each is the word, then one or more of: one space and a number; then one line feed. Nothing
+-- follows": the text is a pin list of these two rows
 pub record Form (text top bot : List ℕ) : Type 0 where
   pub topText : List ℕ
   pub botText : List ℕ

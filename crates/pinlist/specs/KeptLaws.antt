@@ -1,9 +1,21 @@
--- Numbers over 511 are kept as 512: rows so kept are refused exactly as the rows themselves, and rows that are accepted are kept as they are.
+-- Numbers over 511 are kept as 512: rows so kept are refused exactly as the rows themselves, and rows that are accepted
+-- are kept as they are.
 use Prim.Native.Nat.{ℕ, zero, suc, _≤_}
 use native.Mathlib.Omega.{arith}
 use native.Mathlib.Decide.{decLe}
 use mathlib.Core.Path.{_≡_, refl, sym, _∙_, ap, ap₂, fun-ext}
-use mathlib.Core.List.{List, [], _∷_, map, map-append, List·Memᴰ, List·Memᴰ·head, List·Memᴰ·tail, Memᴰ·append-left, Memᴰ·append-right}
+use mathlib.Core.List.{
+  List,
+  [],
+  _∷_,
+  map,
+  map-append,
+  List·Memᴰ,
+  List·Memᴰ·head,
+  List·Memᴰ·tail,
+  Memᴰ·append-left,
+  Memᴰ·append-right,
+}
 use mathlib.Core.Bool.{Bool}
 use mathlib.Core.Option.{Option, none, some}
 use lib.ListN.{length, length-map, List·getD-map}
@@ -37,26 +49,41 @@ kept-at ns zero = refl
 kept-at ns (suc i) = List·getD-map kept ns i 0
 
 kept-high : (n : ℕ) → ltb highestNet (kept n) ≡ ltb highestNet n
-kept-high n = elim (decLe n 511) [ yes h ↦ le-ltb 511 (kept n) (omega arith) ∙ sym (le-ltb 511 n h) | no h ↦ lt-ltb 511 (kept n) (omega arith) ∙ sym (lt-ltb 511 n (omega arith)) ]
+kept-high n =
+    elim (decLe n highestNet) [
+      | yes h ↦ le-ltb highestNet (kept n) (omega arith) ∙ sym (le-ltb highestNet n h)
+      | no h ↦ lt-ltb highestNet (kept n) (omega arith) ∙ sym (lt-ltb highestNet n (omega arith))
+    ]
 
 high-same : (ns : List ℕ) → highAmong (map kept ns) ≡ highAmong ns
-high-same ns = rw (length-map ns kept) (ap (λ (f : ℕ → Bool). refuseAtFirst HighNet (keep f (upTo (length ns)))) (fun-ext (λ p. ap (ltb highestNet) (kept-at ns p) ∙ kept-high (at ns p))))
+high-same ns =
+    rw (length-map ns kept)
+    (ap (λ (f : ℕ → Bool). refuseAtFirst HighNet (keep f (upTo (length ns))))
+    (fun-ext (λ p. ap (ltb highestNet) (kept-at ns p) ∙ kept-high (at ns p))))
 
-low-member : (ns : List ℕ) → highAmong ns ≡ none → (n : ℕ) → List·Memᴰ n ns → n ≤ 511
+low-member : (ns : List ℕ) → highAmong ns ≡ none → (n : ℕ) → List·Memᴰ n ns → n ≤ highestNet
 low-member ns e n m =
     let r = member-at m in
     let q = at-suc ns (r .0) ∙ r .2 in
-    elim (decLe n 511) [ yes h ↦ h | no h ↦ absurd (none-kept→fails (high ns) (refuse-at-first-none HighNet (keep (high ns) (upTo (length ns))) e) (in-upTo (length ns) (suc (r .0)) (omega arith) (r .1)) (lt→ltb highestNet (at ns (suc (r .0))) (omega arith))) ]
+    let empty = refuse-at-first-none HighNet (keep (high ns) (upTo (length ns))) e in
+    let here = in-upTo (length ns) (suc (r .0)) (omega arith) (r .1) in
+    elim (decLe n highestNet) [
+      | yes h ↦ h
+      | no h ↦ absurd (none-kept→fails (high ns) empty here (lt→ltb highestNet (at ns (suc (r .0))) (omega arith)))
+    ]
 
-kept-same : (ns : List ℕ) → ((n : ℕ) → List·Memᴰ n ns → n ≤ 511) → map kept ns ≡ ns
+kept-same : (ns : List ℕ) → ((n : ℕ) → List·Memᴰ n ns → n ≤ highestNet) → map kept ns ≡ ns
 kept-same [] h = refl
-kept-same (n ∷ ns) h = let l = h n (List·Memᴰ·head refl) in ap₂ (λ (m : ℕ) (ms : List ℕ). m ∷ ms) (omega arith) (kept-same ns (λ m k. h m (List·Memᴰ·tail k)))
+kept-same (n ∷ ns) h =
+    let l = h n (List·Memᴰ·head refl) in
+    ap₂ (λ (m : ℕ) (ms : List ℕ). m ∷ ms) (omega arith) (kept-same ns (λ m k. h m (List·Memᴰ·tail k)))
 
 rows-same : (ch : Channel) → highNet ch ≡ none → keptChannel ch ≡ ch
 unfolding highNet
 rows-same ch e =
     let low = low-member (positions ch) e in
-    ap₂ rows (kept-same (ch .top) (λ n m. low n (Memᴰ·append-left (ch .bot) m))) (kept-same (ch .bot) (λ n m. low n (Memᴰ·append-right (ch .top) m)))
+    ap₂ rows (kept-same (ch .top) (λ n m. low n (Memᴰ·append-left (ch .bot) m)))
+    (kept-same (ch .bot) (λ n m. low n (Memᴰ·append-right (ch .top) m)))
 
 high-net-same : (ch : Channel) → highNet (keptChannel ch) ≡ highNet ch
 unfolding highNet

@@ -11,3 +11,4 @@ pub mod TextLaws
 pub mod RowLaws
 pub mod KeptLaws
 pub mod ReadLaws
+pub mod ToldLaws

@@ -1,14 +1,15 @@
--- The reader of a pin list as a function: an automaton that takes a byte at a time. The laws beside it say that it answers the rows of
--- exactly the texts of the form, and the place of `GarbledAt` for every other text.
+-- The reader of a pin list as a function: an automaton that takes a byte at a time. The laws beside it say that it
+-- answers the rows of exactly the texts of the form, and the place of `GarbledAt` for every other text.
 use Prim.Native.Nat.{ℕ, suc, _+_, _-_, _*_}
 use mathlib.Core.List.{List, [], _∷_, _++_}
-use mathlib.Core.Bool.{Bool, true, false, cond}
+use mathlib.Core.Bool.{cond}
 use mathlib.Core.Option.{Option, none, some}
 use lib.Dec.{eqb}
 use Rattle.lists.specs.Lists.{within}
 use Rattle.lists.specs.Bytes.{bytes}
 
--- where the reader stands in a line: these bytes are due, and then a digit; or the number 0 was read; or digits with this value
+-- where the reader stands in a line: these bytes are due, and then a digit; or the number 0 was read; or digits with
+-- this value
 pub data Stand : Type 0 where
   due : List ℕ → Stand
   zeroRead : Stand
@@ -22,7 +23,8 @@ pub data LineStep : Type 0 where
 
 -- after a number: a space, and a digit is due; or a line feed
 unfoldable pub afterNumber : ℕ → List ℕ → ℕ → LineStep
-afterNumber n ns b = cond (eqb b 0x20) (on (due []) (ns ++ (n ∷ []))) (cond (eqb b 0x0A) (closed (ns ++ (n ∷ []))) stuck)
+afterNumber n ns b =
+    cond (eqb b 0x20) (on (due []) (ns ++ (n ∷ []))) (cond (eqb b 0x0A) (closed (ns ++ (n ∷ []))) stuck)
 
 unfoldable pub lineStep : Stand → List ℕ → ℕ → LineStep
 lineStep (due []) ns b = cond (eqb b 48) (on zeroRead ns) (cond (within 49 b 57) (on (digits (b - 48)) ns) stuck)

@@ -1,5 +1,5 @@
--- The reader's steps as relations: which byte takes it from where to where, for one line and for both, and what a run of bytes tells of what
--- is read.
+-- The reader's steps as relations: which byte takes it from where to where, for one line and for both, and what a run
+-- of bytes tells of what is read.
 use Prim.Native.Nat.{ℕ, zero, suc, _+_, _*_, _≤_, _<_}
 use native.Mathlib.Omega.{arith}
 use mathlib.Core.Path.{_≡_, refl, sym, _∙_, ap, subst}
@@ -13,7 +13,9 @@ use Rattle.lists.specs.Lists.{within}
 use Rattle.lists.specs.Bytes.{bytes}
 use Rattle.lists.specs.Tests.{within→, →within}
 use Rattle.pinlist.specs.Form.{Gap, LineEnd}
-use Rattle.pinlist.specs.Reader.{Stand, due, zeroRead, digits, LineStep, on, closed, stuck, afterNumber, lineStep, State, inTop, inBot, ended, topStep, botStep, step, rows, garbled, atEnd, readFrom}
+use Rattle.pinlist.specs.Reader.{Stand, due, zeroRead, digits, LineStep, on, closed, stuck, afterNumber, lineStep}
+use Rattle.pinlist.specs.Reader.{State, inTop, inBot, ended, topStep, botStep, step, rows, garbled, atEnd}
+use Rattle.pinlist.specs.Reader.{readFrom}
 
 -- the reader stands behind the number n
 pub data Behind : Stand → ℕ → Type 0 where
@@ -27,7 +29,8 @@ pub data Takes : Stand → List ℕ → ℕ → LineStep → Type 0 where
   first-digit : {b d : ℕ} {ns : List ℕ} → b ≡ 48 + d → 1 ≤ d → d < 10 → Takes (due []) ns b (on (digits d) ns)
   next-digit : {b d m : ℕ} {ns : List ℕ} → b ≡ 48 + d → d < 10 → Takes (digits m) ns b (on (digits (m * 10 + d)) ns)
   gap : {s : Stand} {b n : ℕ} {ns : List ℕ} → Behind s n → Gap (b ∷ []) → Takes s ns b (on (due []) (ns ++ (n ∷ [])))
-  line-end : {s : Stand} {b n : ℕ} {ns : List ℕ} → Behind s n → LineEnd (b ∷ []) → Takes s ns b (closed (ns ++ (n ∷ [])))
+  line-end : {s : Stand} {b n : ℕ} {ns : List ℕ} → Behind s n → LineEnd (b ∷ [])
+      → Takes s ns b (closed (ns ++ (n ∷ [])))
 
 by-test : {A : Type 0} (P : A → Type 0) (t : Bool) {x y : A} → (T t → P x) → ((T t → ⊥) → P y) → P (cond t x y)
 by-test P true f g = f tt
@@ -41,30 +44,41 @@ passed b c e = subst (λ (k : ℕ). T (eqb b k)) e (eqb-refl b)
 
 behind-gap : (b n : ℕ) (ns : List ℕ) → Gap (b ∷ []) → afterNumber n ns b ≡ on (due []) (ns ++ (n ∷ []))
 unfolding afterNumber
-behind-gap b n ns e = by-test (λ o. o ≡ on (due []) (ns ++ (n ∷ []))) (eqb b 0x20) (λ t. refl) (λ f. absurd (f (passed b 0x20 (byte e))))
+behind-gap b n ns e =
+    by-test (λ o. o ≡ on (due []) (ns ++ (n ∷ []))) (eqb b 0x20) (λ t. refl) (λ f. absurd (f (passed b 0x20 (byte e))))
 
 behind-end : (b n : ℕ) (ns : List ℕ) → LineEnd (b ∷ []) → afterNumber n ns b ≡ closed (ns ++ (n ∷ []))
 unfolding afterNumber
 behind-end b n ns e =
     let q : b ≡ 0x0A = byte e in
-    by-test (λ o. o ≡ closed (ns ++ (n ∷ []))) (eqb b 0x20) (λ t. let z = eqb→eq b 0x20 t in absurd (omega arith)) (λ f. by-test (λ o. o ≡ closed (ns ++ (n ∷ []))) (eqb b 0x0A) (λ t. refl) (λ g. absurd (g (passed b 0x0A q))))
+    by-test (λ o. o ≡ closed (ns ++ (n ∷ []))) (eqb b 0x20) (λ t. let z = eqb→eq b 0x20 t in absurd (omega arith))
+    (λ f. by-test (λ o. o ≡ closed (ns ++ (n ∷ []))) (eqb b 0x0A) (λ t. refl) (λ g. absurd (g (passed b 0x0A q))))
 
 no-digit : (b : ℕ) (x y : LineStep) → b < 48 → cond (within 48 b 57) x y ≡ y
-no-digit b x y h = by-test (λ o. o ≡ y) (within 48 b 57) (λ t. let w = within→ 48 b 57 t in absurd (omega arith)) (λ f. refl)
+no-digit b x y h =
+    by-test (λ o. o ≡ y) (within 48 b 57) (λ t. let w = within→ 48 b 57 t in absurd (omega arith)) (λ f. refl)
 
 takes→step : {s : Stand} {ns : List ℕ} {b : ℕ} {o : LineStep} → Takes s ns b o → lineStep s ns b ≡ o
 unfolding lineStep
-takes→step (the-due {b} {d} {ds} {ns} e) = by-test (λ o. o ≡ on (due ds) ns) (eqb b d) (λ t. refl) (λ f. absurd (f (passed b d e)))
-takes→step (the-zero {b} {ns} e) = by-test (λ o. o ≡ on zeroRead ns) (eqb b 48) (λ t. refl) (λ f. absurd (f (passed b 48 e)))
+takes→step (the-due {b} {d} {ds} {ns} e) =
+    by-test (λ o. o ≡ on (due ds) ns) (eqb b d) (λ t. refl) (λ f. absurd (f (passed b d e)))
+takes→step (the-zero {b} {ns} e) =
+    by-test (λ o. o ≡ on zeroRead ns) (eqb b 48) (λ t. refl) (λ f. absurd (f (passed b 48 e)))
 takes→step (first-digit {b} {d} {ns} e l h) =
     let P : LineStep → Type 0 = λ o. o ≡ on (digits d) ns in
-    by-test P (eqb b 48) (λ t. let z = eqb→eq b 48 t in absurd (omega arith)) (λ f. by-test P (within 49 b 57) (λ t. ap (λ (k : ℕ). on (digits k) ns) (omega arith)) (λ g. absurd (g (→within 49 b 57 (omega arith) (omega arith)))))
+    by-test P (eqb b 48) (λ t. let z = eqb→eq b 48 t in absurd (omega arith))
+    (λ f. by-test P (within 49 b 57) (λ t. ap (λ (k : ℕ). on (digits k) ns) (omega arith))
+    (λ g. absurd (g (→within 49 b 57 (omega arith) (omega arith)))))
 takes→step (next-digit {b} {d} {m} {ns} e h) =
-    by-test (λ o. o ≡ on (digits (m * 10 + d)) ns) (within 48 b 57) (λ t. ap (λ (k : ℕ). on (digits (m * 10 + k)) ns) (omega arith)) (λ g. absurd (g (→within 48 b 57 (omega arith) (omega arith))))
+    by-test (λ o. o ≡ on (digits (m * 10 + d)) ns) (within 48 b 57)
+    (λ t. ap (λ (k : ℕ). on (digits (m * 10 + k)) ns) (omega arith))
+    (λ g. absurd (g (→within 48 b 57 (omega arith) (omega arith))))
 takes→step (gap {b} {ns} behind-zero e) = behind-gap b 0 ns e
-takes→step (gap {b} {ns} (behind-digits {n}) e) = let q : b ≡ 0x20 = byte e in no-digit b _ _ (omega arith) ∙ behind-gap b n ns e
+takes→step (gap {b} {ns} (behind-digits {n}) e) =
+    let q : b ≡ 0x20 = byte e in no-digit b _ _ (omega arith) ∙ behind-gap b n ns e
 takes→step (line-end {b} {ns} behind-zero e) = behind-end b 0 ns e
-takes→step (line-end {b} {ns} (behind-digits {n}) e) = let q : b ≡ 0x0A = byte e in no-digit b _ _ (omega arith) ∙ behind-end b n ns e
+takes→step (line-end {b} {ns} (behind-digits {n}) e) =
+    let q : b ≡ 0x0A = byte e in no-digit b _ _ (omega arith) ∙ behind-end b n ns e
 
 -- a byte belongs, or the line is stuck at it
 data Outcome (s : Stand) (ns : List ℕ) (b : ℕ) : LineStep → Type 0 where
@@ -75,24 +89,34 @@ after-number : {s : Stand} {n : ℕ} (ns : List ℕ) (b : ℕ) → Behind s n �
 unfolding afterNumber
 after-number {s} {n} ns b h =
     let P : LineStep → Type 0 = λ o. Outcome s ns b o in
-    by-test P (eqb b 0x20) (λ t. belongs (gap h (ap (λ (k : ℕ). k ∷ []) (eqb→eq b 0x20 t)))) (λ f. by-test P (eqb b 0x0A) (λ t. belongs (line-end h (ap (λ (k : ℕ). k ∷ []) (eqb→eq b 0x0A t)))) (λ g. refused))
+    by-test P (eqb b 0x20) (λ t. belongs (gap h (ap (λ (k : ℕ). k ∷ []) (eqb→eq b 0x20 t))))
+    (λ f. by-test P (eqb b 0x0A) (λ t. belongs (line-end h (ap (λ (k : ℕ). k ∷ []) (eqb→eq b 0x0A t))))
+    (λ g. refused))
 
 outcome : (s : Stand) (ns : List ℕ) (b : ℕ) → Outcome s ns b (lineStep s ns b)
 unfolding lineStep
 outcome (due []) ns b =
     let P : LineStep → Type 0 = λ o. Outcome (due []) ns b o in
-    by-test P (eqb b 48) (λ t. belongs (the-zero (eqb→eq b 48 t))) (λ f. by-test P (within 49 b 57) (λ t. let w = within→ 49 b 57 t in belongs (first-digit (omega arith) (omega arith) (omega arith))) (λ g. refused))
-outcome (due (d ∷ ds)) ns b = by-test (λ o. Outcome (due (d ∷ ds)) ns b o) (eqb b d) (λ t. belongs (the-due (eqb→eq b d t))) (λ f. refused)
+    by-test P (eqb b 48) (λ t. belongs (the-zero (eqb→eq b 48 t)))
+    (λ f. by-test P (within 49 b 57) (λ t. let w = within→ 49 b 57 t in
+    belongs (first-digit (omega arith) (omega arith) (omega arith))) (λ g. refused))
+outcome (due (d ∷ ds)) ns b =
+    by-test (λ o. Outcome (due (d ∷ ds)) ns b o) (eqb b d) (λ t. belongs (the-due (eqb→eq b d t))) (λ f. refused)
 outcome zeroRead ns b = after-number ns b behind-zero
 outcome (digits m) ns b =
-    by-test (λ o. Outcome (digits m) ns b o) (within 48 b 57) (λ t. let w = within→ 48 b 57 t in belongs (next-digit (omega arith) (omega arith))) (λ f. after-number ns b behind-digits)
+    by-test (λ o. Outcome (digits m) ns b o) (within 48 b 57)
+    (λ t. let w = within→ 48 b 57 t in belongs (next-digit (omega arith) (omega arith)))
+    (λ f. after-number ns b behind-digits)
 
 -- the same for both lines
 pub data Steps : State → ℕ → State → Type 0 where
   top-on : {s s′ : Stand} {ns ns′ : List ℕ} {b : ℕ} → Takes s ns b (on s′ ns′) → Steps (inTop s ns) b (inTop s′ ns′)
-  top-closed : {s : Stand} {ns top : List ℕ} {b : ℕ} → Takes s ns b (closed top) → Steps (inTop s ns) b (inBot top (due (bytes "BOT ")) [])
-  bot-on : {s s′ : Stand} {top ns ns′ : List ℕ} {b : ℕ} → Takes s ns b (on s′ ns′) → Steps (inBot top s ns) b (inBot top s′ ns′)
-  bot-closed : {s : Stand} {top ns bot : List ℕ} {b : ℕ} → Takes s ns b (closed bot) → Steps (inBot top s ns) b (ended top bot)
+  top-closed : {s : Stand} {ns top : List ℕ} {b : ℕ} → Takes s ns b (closed top)
+      → Steps (inTop s ns) b (inBot top (due (bytes "BOT ")) [])
+  bot-on : {s s′ : Stand} {top ns ns′ : List ℕ} {b : ℕ} → Takes s ns b (on s′ ns′)
+      → Steps (inBot top s ns) b (inBot top s′ ns′)
+  bot-closed : {s : Stand} {top ns bot : List ℕ} {b : ℕ} → Takes s ns b (closed bot)
+      → Steps (inBot top s ns) b (ended top bot)
 
 steps→step : {s s′ : State} {b : ℕ} → Steps s b s′ → step s b ≡ some s′
 unfolding step topStep botStep
@@ -139,18 +163,22 @@ unfolding readFrom
 read-stuck s b k bs e = rw (e, readFrom)
 
 -- rows are read where the bytes run to the end of both lines, and only there
-pub runs→read : {s : State} {text top bot : List ℕ} → Runs s text (ended top bot) → (k : ℕ) → readFrom s k text ≡ rows top bot
+pub runs→read : {s : State} {text top bot : List ℕ} → Runs s text (ended top bot) → (k : ℕ)
+    → readFrom s k text ≡ rows top bot
 unfolding readFrom atEnd
 runs→read here k = refl
 runs→read (next {bs} t r) k = read-on t k bs ∙ runs→read r (suc k)
 
-pub read→runs : (text : List ℕ) (s : State) (k : ℕ) {top bot : List ℕ} → readFrom s k text ≡ rows top bot → Runs s text (ended top bot)
+pub read→runs : (text : List ℕ) (s : State) (k : ℕ) {top bot : List ℕ} → readFrom s k text ≡ rows top bot
+    → Runs s text (ended top bot)
 unfolding readFrom atEnd
 read→runs [] (inTop s ns) k e = let z : _≡_ {A = ℕ} 0 1 = cc in absurd (omega arith)
 read→runs [] (inBot t s ns) k e = let z : _≡_ {A = ℕ} 0 1 = cc in absurd (omega arith)
-read→runs [] (ended t b) k {top} {bot} e = let q : ended t b ≡ ended top bot = cc in subst (λ (s : State). Runs (ended t b) [] s) q here
+read→runs [] (ended t b) k {top} {bot} e =
+    let q : ended t b ≡ ended top bot = cc in subst (λ (s : State). Runs (ended t b) [] s) q here
 read→runs (b ∷ bs) s k e =
-    ⊎-elim (λ w. next (w .1) (read→runs bs (w .0) (suc k) (sym (read-on (w .1) k bs) ∙ e))) (λ q. let f = read-stuck s b k bs q in let z : _≡_ {A = ℕ} 0 1 = cc in absurd (omega arith)) (steps? s b)
+    ⊎-elim (λ w. next (w .1) (read→runs bs (w .0) (suc k) (sym (read-on (w .1) k bs) ∙ e)))
+    (λ q. let f = read-stuck s b k bs q in let z : _≡_ {A = ℕ} 0 1 = cc in absurd (omega arith)) (steps? s b)
 
 -- n is the most bytes of the text that the reader takes
 pub record Stops (s : State) (text : List ℕ) (n : ℕ) : Type 0 where
@@ -170,7 +198,14 @@ stuck-first s b bs q = record { within-text = omega arith; state = s; runs = her
     most (suc m) h (next t r) = let f = steps→step t in let z : _≡_ {A = ℕ} 0 1 = cc in absurd (omega arith)
 
 one-more : {s s′ : State} {b : ℕ} {bs : List ℕ} {j : ℕ} → Steps s b s′ → Stops s′ bs j → Stops s (b ∷ bs) (suc j)
-one-more {s} {s′} {b} {bs} {j} t h = record { within-text = let l = h .within-text in omega arith; state = h .state; runs = next t (h .runs); most = most }
+one-more {s} {s′} {b} {bs} {j} t h =
+    record {
+      within-text = let l = h .within-text in
+          omega arith;
+      state = h .state;
+      runs = next t (h .runs);
+      most = most;
+    }
   where
     most : (m : ℕ) {s″ : State} → m ≤ suc (length bs) → Runs s (take m (b ∷ bs)) s″ → m ≤ suc j
     most zero l r = omega arith
@@ -181,10 +216,14 @@ one-more {s} {s′} {b} {bs} {j} t h = record { within-text = let l = h .within-
         let u = h .most m (omega arith) (subst (λ (s₀ : State). Runs s₀ (take m bs) s″) q r) in
         omega arith
 
-pub garbled→stops : (text : List ℕ) (s : State) (k n : ℕ) → readFrom s k text ≡ garbled n → (j : ℕ) × (n ≡ k + j) × Stops s text j
+pub garbled→stops : (text : List ℕ) (s : State) (k n : ℕ) → readFrom s k text ≡ garbled n
+    → (j : ℕ) × (n ≡ k + j) × Stops s text j
 unfolding readFrom atEnd
 garbled→stops [] (inTop s ns) k n e = let q : k ≡ n = cc in (0, omega arith, none-taken (inTop s ns))
 garbled→stops [] (inBot t s ns) k n e = let q : k ≡ n = cc in (0, omega arith, none-taken (inBot t s ns))
 garbled→stops [] (ended t b) k n e = let z : _≡_ {A = ℕ} 0 1 = cc in absurd (omega arith)
 garbled→stops (b ∷ bs) s k n e =
-    ⊎-elim (λ w. let r = garbled→stops bs (w .0) (suc k) n (sym (read-on (w .1) k bs) ∙ e) in (suc (r .0), omega arith, one-more (w .1) (r .2))) (λ q. let f = read-stuck s b k bs q in let p : k ≡ n = cc in (0, omega arith, stuck-first s b bs q)) (steps? s b)
+    ⊎-elim (λ w. let r = garbled→stops bs (w .0) (suc k) n (sym (read-on (w .1) k bs) ∙ e) in
+    (suc (r .0), omega arith, one-more (w .1) (r .2)))
+    (λ q. let f = read-stuck s b k bs q in let p : k ≡ n = cc in (0, omega arith, stuck-first s b bs q))
+    (steps? s b)

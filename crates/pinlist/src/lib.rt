@@ -3,11 +3,14 @@ mod line;
 mod number;
 
 ghost use mathlib.Core.Path.{_≡_};
-ghost use Prim.Native.Nat.{ℕ, _≤_};
+ghost use Prim.Native.Nat.{_≤_};
 ghost use lib.ListN.{length};
 ghost use Rattle.lists.specs.Lists.{overlay};
+ghost use Rattle.channel.specs.Channel.{widest};
 ghost use Rattle.pinlist.specs.Code.{Parsed, ReadDone};
 use crate::line::LineRead;
+use grid::WIDEST;
+use refusal::ROW_TRAY;
 use refusal::Refusal;
 
 // What reading a text into two lent rows answers.
@@ -24,8 +27,8 @@ enum TextRead {
 }
 
 // Reads a whole text, keeping the first 512 numbers of each row; a number over 511 is kept as 512.
-fn parse(text: &[u8], top: &mut [u32; 512], bot: &mut [u32; 512]) -> TextRead
-    requires { ⌜ (length (now top) ≡ 512) × (length (now bot) ≡ 512) ⌝ }
+fn parse(text: &[u8], top: &mut [u32; WIDEST], bot: &mut [u32; WIDEST]) -> TextRead
+    requires { ⌜ (length (now top) ≡ widest) × (length (now bot) ≡ widest) ⌝ }
     ensures { λ r.
         ⌜ Parsed (now (text .entry)) (now (top .entry)) (now (bot .entry)) r (now (top .exit)) (now (bot .exit)) ⌝ }
 {
@@ -66,16 +69,16 @@ pub fn read(text: &[u8], top: &mut [u32], bot: &mut [u32]) -> ReadAnswer
     ensures { λ r.
         ⌜ ReadDone (now (text .entry)) (now (top .entry)) (now (bot .entry)) r (now (top .exit)) (now (bot .exit)) ⌝ }
 {
-    if top.len() < 512 || bot.len() < 512 {
-        return ReadAnswer::Refused(Refusal::ShortTray(512));
+    if top.len() < ROW_TRAY || bot.len() < ROW_TRAY {
+        return ReadAnswer::Refused(Refusal::ShortTray(ROW_TRAY));
     }
-    let mut tops = [0u32; 512];
-    let mut bots = [0u32; 512];
+    let mut tops = [0u32; WIDEST];
+    let mut bots = [0u32; WIDEST];
     match parse(text, &mut tops, &mut bots) {
         TextRead::Garbled(place) => ReadAnswer::Refused(Refusal::Garbled(place)),
         TextRead::Rows { top: a, bot: b } => {
-            if 512 < a || 512 < b {
-                return ReadAnswer::Refused(Refusal::TooWide(513));
+            if WIDEST < a || WIDEST < b {
+                return ReadAnswer::Refused(Refusal::TooWide(WIDEST + 1));
             }
             match channel::check(&tops[..a], &bots[..b]) {
                 channel::RowsAnswer::Refused(refusal) => ReadAnswer::Refused(refusal),

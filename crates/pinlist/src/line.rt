@@ -1,13 +1,16 @@
 // A line of a pin list: its word, then a space and a number one or more times, then a line feed.
 ghost use mathlib.Core.Path.{_≡_};
-ghost use Prim.Native.Nat.{ℕ, _+_, _≤_};
+ghost use Prim.Native.Nat.{_+_, _≤_};
 ghost use mathlib.Core.List.{[]};
 ghost use lib.ListN.{length, drop, set};
+ghost use Rattle.channel.specs.Channel.{widest};
 ghost use Rattle.pinlist.specs.Code.{shared, LineDone};
 use crate::number::NumberRead;
 use crate::number::read_number;
+use grid::WIDEST;
 
-// What a line is read as: how many numbers it has and the place behind it, or the place of the byte that does not belong.
+// What a line is read as: how many numbers it has and the place behind it, or the place of the byte that does not
+// belong.
 pub enum LineRead {
     Line { count: usize, next: usize },
     Stuck(usize),
@@ -32,18 +35,18 @@ fn shared_word(text: &[u8], at: usize, word: &[u8; 4]) -> usize
 }
 
 // Keeps a number in its place of the row, if the row has that place.
-fn keep_number(row: &mut [u32; 512], place: usize, value: u32)
-    requires { ⌜ length (now row) ≡ 512 ⌝ }
+fn keep_number(row: &mut [u32; WIDEST], place: usize, value: u32)
+    requires { ⌜ length (now row) ≡ widest ⌝ }
     ensures { λ _. ⌜ now (row .exit) ≡ set (now (row .entry)) place value ⌝ }
 {
-    if place < 512 {
+    if place < WIDEST {
         row[place] = value;
     }
 }
 
 // Reads the numbers of a line into a row, from the place where the first digit is due.
-fn read_numbers(text: &[u8], from: usize, row: &mut [u32; 512]) -> LineRead
-    requires { ⌜ (from ≤ length (now text)) × (length (now row) ≡ 512) ⌝ }
+fn read_numbers(text: &[u8], from: usize, row: &mut [u32; WIDEST]) -> LineRead
+    requires { ⌜ (from ≤ length (now text)) × (length (now row) ≡ widest) ⌝ }
     ensures { λ r. ⌜ LineDone [] (now (text .entry)) from (now (row .entry)) r (now (row .exit)) ⌝ }
 {
     let mut at = from;
@@ -72,8 +75,8 @@ fn read_numbers(text: &[u8], from: usize, row: &mut [u32; 512]) -> LineRead
 }
 
 // Reads one line that begins at byte `at` with a word and a space.
-pub fn read_line(text: &[u8], at: usize, word: &[u8; 4], row: &mut [u32; 512]) -> LineRead
-    requires { ⌜ (at ≤ length (now text)) × (length (now word) ≡ 4) × (length (now row) ≡ 512) ⌝ }
+pub fn read_line(text: &[u8], at: usize, word: &[u8; 4], row: &mut [u32; WIDEST]) -> LineRead
+    requires { ⌜ (at ≤ length (now text)) × (length (now word) ≡ 4) × (length (now row) ≡ widest) ⌝ }
     ensures { λ r.
         ⌜ LineDone (now (word .entry)) (now (text .entry)) at (now (row .entry)) r (now (row .exit)) ⌝ }
 {

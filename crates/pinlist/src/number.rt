@@ -1,7 +1,9 @@
 // A number of a pin list.
 ghost use mathlib.Core.Path.{_≡_};
-ghost use Prim.Native.Nat.{ℕ, _+_, _-_, _*_, _≤_};
+ghost use Prim.Native.Nat.{suc, _+_, _-_, _*_, _≤_};
+ghost use Rattle.channel.specs.Channel.{highestNet};
 ghost use Rattle.pinlist.specs.Code.{kept, numberRead};
+use grid::HIGHEST_NET;
 
 // What stands at a place after a space.
 pub enum NumberRead {
@@ -42,12 +44,12 @@ pub fn read_number(text: &[u8], at: usize) -> NumberRead
 
 // The value with one more digit behind it, 512 where it is over 511.
 fn with_digit(value: u32, digit: u8) -> u32
-    requires { ⌜ (value ≤ 512) × (48 ≤ digit) × (digit ≤ 57) ⌝ }
+    requires { ⌜ (value ≤ suc highestNet) × (48 ≤ digit) × (digit ≤ 57) ⌝ }
     ensures { λ r. ⌜ r ≡ kept (value * 10 + (digit - 48)) ⌝ }
 {
     let more = value * 10 + (digit - b'0') as u32;
-    if 511 < more {
-        return 512;
+    if HIGHEST_NET < more {
+        return HIGHEST_NET + 1;
     }
     more
 }

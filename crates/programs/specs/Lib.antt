@@ -1,2 +1,4 @@
+pub mod Programs
 pub mod Code
 pub mod CodeLaws
+pub mod RouteLaws

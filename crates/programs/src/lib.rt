@@ -1,31 +1,47 @@
 // What the three programs write, of the bytes that they read. A program itself only reads and writes.
 ghost use mathlib.Core.Path.{_≡_};
-ghost use mathlib.Core.List.{[]};
 ghost use Prim.Native.Nat.{_≤_};
 ghost use lib.ListN.{length, take};
-ghost use lib.Seq.{sets};
 ghost use Rattle.io.specs.Counts.{Counts};
 ghost use Rattle.refusal.specs.Refusals.{placeOf};
+ghost use Rattle.refusal.specs.Trays.{recordTray, ringTray};
 ghost use Rattle.channel.specs.Channel.{rows};
 ghost use Rattle.channel.specs.Answers.{Escapes};
-ghost use Rattle.report.specs.Lines.{refusalLines};
+ghost use Rattle.text.specs.Lines.{Put};
+ghost use Rattle.report.specs.Lines.{refusedLine, refusalLine};
 ghost use Rattle.report.specs.Code.{listingText};
-ghost use Rattle.report.specs.Programs.{ofFilled, listing, judgeLines, listingOutput, boardOutput, judgeOutput};
-ghost use Rattle.programs.specs.Code.{Wrote, boardBytes, unroutedText, figuresOf, faultLine, judgedAgainst, pinsPass};
+ghost use Rattle.programs.specs.Programs.{overLimit, ofFilled, listing, boardBytes, judgeLines, judgedAgainst};
+ghost use Rattle.programs.specs.Programs.{listingOutput, boardOutput, judgeOutput};
+ghost use Rattle.programs.specs.Code.{unroutedText, figuresOf, pinsPass, PinsDone};
 use blanks::BlankAnswer;
 use channel::BoundsAnswer;
-use judge::Fault;
 use judge::JudgeAnswer;
 use pinlist::ReadAnswer;
+use refusal::BOARD_TRAY;
+use refusal::RING_TRAY;
+use refusal::ROW_TRAY;
 use refusal::Refusal;
+use refusal::SCRATCH_TRAY;
 use report::Figures;
 use router::RouteAnswer;
 use router::Routing;
 
+// The most bytes of an input that is handed to the library.
+const INPUT_LIMIT: usize = 65536;
+
+// The line of an input over the limit; answers its length.
+fn put_over(out: &mut [u8]) -> usize
+    requires { ⌜ 64 ≤ length (now out) ⌝ }
+    ensures { λ r. ⌜ Put (now (out .entry)) 0 (refusedLine overLimit) (now (out .exit)) r ⌝ }
+    ensures { λ r. ⌜ r ≤ 64 ⌝ }
+{
+    report::put_refused(out, 0, INPUT_LIMIT as u64)
+}
+
 // The line of a refusal; answers its length.
 fn put_refusal(out: &mut [u8], refusal: Refusal) -> usize
     requires { ⌜ 64 ≤ length (now out) ⌝ }
-    ensures { λ r. ⌜ Wrote (now (out .entry)) (refusalLines [] refusal) (now (out .exit)) r ⌝ }
+    ensures { λ r. ⌜ Put (now (out .entry)) 0 (refusalLine refusal) (now (out .exit)) r ⌝ }
     ensures { λ r. ⌜ r ≤ 64 ⌝ }
 {
     report::put_refused(
@@ -35,10 +51,49 @@ fn put_refusal(out: &mut [u8], refusal: Refusal) -> usize
     )
 }
 
+// What came of reading a pin list: so many bytes of its refusal written, or the width of its rows.
+enum PinsRead {
+    Refused(usize),
+    Width(usize),
+}
+
+// Reads a pin list into two rows, or puts the line of its refusal at the front of `out`.
+fn read_pins(
+    text: &[u8],
+    top: &mut [u32; ROW_TRAY],
+    bot: &mut [u32; ROW_TRAY],
+    out: &mut [u8],
+) -> PinsRead
+    requires { ⌜ 64 ≤ length (now out) ⌝ }
+    ensures { λ r.
+        ⌜ PinsDone (now (text .entry)) (now (out .entry)) r (now (top .exit)) (now (bot .exit)) (now (out .exit)) ⌝ }
+{
+    if INPUT_LIMIT < text.len() {
+        return PinsRead::Refused(put_over(out));
+    }
+    match pinlist::read(text, top, bot) {
+        ReadAnswer::Refused(refusal) => PinsRead::Refused(put_refusal(out, refusal)),
+        ReadAnswer::Width(w) => PinsRead::Width(w),
+    }
+}
+
+// Whether a pin list is within the limit and not refused.
+pub fn pins_pass(pins: &[u8]) -> bool
+    ensures { λ r. ⌜ r ≡ pinsPass (now (pins .entry)) ⌝ }
+{
+    let mut top = [0u32; ROW_TRAY];
+    let mut bot = [0u32; ROW_TRAY];
+    let mut line = [0u8; 64];
+    match read_pins(pins, &mut top, &mut bot, &mut line) {
+        PinsRead::Refused(_) => false,
+        PinsRead::Width(_) => true,
+    }
+}
+
 // The lines of a refusal of the router: with the ring's lines under 7.
 fn put_unrouted(out: &mut [u8], refusal: Refusal, ring: &[u32]) -> usize
-    requires { ⌜ (placeOf refusal ≤ 511) × (1022 ≤ length (now ring)) × (65536 ≤ length (now out)) ⌝ }
-    ensures { λ r. ⌜ Wrote (now (out .entry)) (unroutedText refusal (now (ring .entry))) (now (out .exit)) r ⌝ }
+    requires { ⌜ (placeOf refusal ≤ recordTray) × (ringTray ≤ length (now ring)) × (65536 ≤ length (now out)) ⌝ }
+    ensures { λ r. ⌜ Put (now (out .entry)) 0 (unroutedText refusal (now (ring .entry))) (now (out .exit)) r ⌝ }
     ensures { λ r. ⌜ r ≤ 65536 ⌝ }
 {
     let size = put_refusal(out, refusal);
@@ -57,8 +112,13 @@ fn put_routed(
     tracks: u32,
     pieces: u32,
 ) -> usize
-    requires { ⌜ Escapes (rows (now top) (now bot)) × (tracks ≤ 511) × (routing .count ≤ 511) × (65536 ≤ length (now out)) ⌝ }
-    ensures { λ r. ⌜ Wrote (now (out .entry)) (listingText (figuresOf (rows (now (top .entry)) (now (bot .entry))) tracks pieces) (take (routing .count) (routing .records))) (now (out .exit)) r ⌝ }
+    requires { ⌜ Escapes (rows (now top) (now bot)) × (tracks ≤ recordTray) × (routing .count ≤ recordTray)
+        × (65536 ≤ length (now out)) ⌝ }
+    ensures { λ r.
+        ⌜ Put (now (out .entry)) 0
+        (listingText (figuresOf (rows (now (top .entry)) (now (bot .entry))) tracks pieces)
+        (take (routing .count) (routing .records)))
+        (now (out .exit)) r ⌝ }
     ensures { λ r. ⌜ r ≤ 65536 ⌝ }
 {
     match channel::bounds(top, bot) {
@@ -84,11 +144,13 @@ fn put_routed(
 // The listing of a channel that is accepted, or refusal 7.
 fn list_channel(top: &[u32], bot: &[u32], out: &mut [u8]) -> usize
     requires { ⌜ Escapes (rows (now top) (now bot)) × (65536 ≤ length (now out)) ⌝ }
-    ensures { λ r. ⌜ Wrote (now (out .entry)) (ofFilled listing (rows (now (top .entry)) (now (bot .entry)))) (now (out .exit)) r ⌝ }
+    ensures { λ r.
+        ⌜ Put (now (out .entry)) 0
+        (ofFilled listing (rows (now (top .entry)) (now (bot .entry)))) (now (out .exit)) r ⌝ }
     ensures { λ r. ⌜ r ≤ 65536 ⌝ }
 {
-    let mut ring = [0u32; 1022];
-    let mut board = [0u8; 10240];
+    let mut ring = [0u32; RING_TRAY];
+    let mut board = [0u8; BOARD_TRAY];
     let routing = router::route_rows(top, bot, &mut ring, &mut board);
     let answer = routing.answer;
     match answer {
@@ -107,28 +169,26 @@ fn list_channel(top: &[u32], bot: &[u32], out: &mut [u8]) -> usize
 // What the listing program writes of the text that it reads, at the front of `out`; answers how many bytes that is.
 pub fn listing_output(text: &[u8], out: &mut [u8]) -> usize
     requires { ⌜ 65536 ≤ length (now out) ⌝ }
-    ensures { λ r.
-        ⌜ (r ≡ length (listingOutput (now (text .entry)))) × (now (out .exit) ≡ sets (now (out .entry)) 0 (listingOutput (now (text .entry)))) ⌝ }
+    ensures { λ r. ⌜ Put (now (out .entry)) 0 (listingOutput (now (text .entry))) (now (out .exit)) r ⌝ }
     ensures { λ r. ⌜ Counts r (now (out .exit)) ⌝ }
 {
-    if 65536 < text.len() {
-        return report::put_refused(out, 0, 65536);
-    }
-    let mut top = [0u32; 512];
-    let mut bot = [0u32; 512];
-    match pinlist::read(text, &mut top, &mut bot) {
-        ReadAnswer::Refused(refusal) => put_refusal(out, refusal),
-        ReadAnswer::Width(w) => list_channel(&top[..w], &bot[..w], out),
+    let mut top = [0u32; ROW_TRAY];
+    let mut bot = [0u32; ROW_TRAY];
+    match read_pins(text, &mut top, &mut bot, out) {
+        PinsRead::Refused(size) => size,
+        PinsRead::Width(w) => list_channel(&top[..w], &bot[..w], out),
     }
 }
 
 // The board file of a channel that is accepted, or refusal 7.
 fn board_channel(top: &[u32], bot: &[u32], out: &mut [u8]) -> usize
     requires { ⌜ Escapes (rows (now top) (now bot)) × (65536 ≤ length (now out)) ⌝ }
-    ensures { λ r. ⌜ Wrote (now (out .entry)) (ofFilled boardBytes (rows (now (top .entry)) (now (bot .entry)))) (now (out .exit)) r ⌝ }
+    ensures { λ r.
+        ⌜ Put (now (out .entry)) 0
+        (ofFilled boardBytes (rows (now (top .entry)) (now (bot .entry)))) (now (out .exit)) r ⌝ }
     ensures { λ r. ⌜ r ≤ 65536 ⌝ }
 {
-    let mut ring = [0u32; 1022];
+    let mut ring = [0u32; RING_TRAY];
     let routing = router::route_rows(top, bot, &mut ring, out);
     let answer = routing.answer;
     match answer {
@@ -140,56 +200,49 @@ fn board_channel(top: &[u32], bot: &[u32], out: &mut [u8]) -> usize
 // What the program that writes board files writes of the text that it reads.
 pub fn board_output(text: &[u8], out: &mut [u8]) -> usize
     requires { ⌜ 65536 ≤ length (now out) ⌝ }
-    ensures { λ r.
-        ⌜ (r ≡ length (boardOutput (now (text .entry)))) × (now (out .exit) ≡ sets (now (out .entry)) 0 (boardOutput (now (text .entry)))) ⌝ }
+    ensures { λ r. ⌜ Put (now (out .entry)) 0 (boardOutput (now (text .entry))) (now (out .exit)) r ⌝ }
     ensures { λ r. ⌜ Counts r (now (out .exit)) ⌝ }
 {
-    if 65536 < text.len() {
-        return report::put_refused(out, 0, 65536);
-    }
-    let mut top = [0u32; 512];
-    let mut bot = [0u32; 512];
-    match pinlist::read(text, &mut top, &mut bot) {
-        ReadAnswer::Refused(refusal) => put_refusal(out, refusal),
-        ReadAnswer::Width(w) => board_channel(&top[..w], &bot[..w], out),
+    let mut top = [0u32; ROW_TRAY];
+    let mut bot = [0u32; ROW_TRAY];
+    match read_pins(text, &mut top, &mut bot, out) {
+        PinsRead::Refused(size) => size,
+        PinsRead::Width(w) => board_channel(&top[..w], &bot[..w], out),
     }
 }
 
 // The line of a judged board; answers its length.
 fn put_judged(out: &mut [u8], answer: JudgeAnswer) -> usize
     requires { ⌜ 64 ≤ length (now out) ⌝ }
-    ensures { λ r. ⌜ Wrote (now (out .entry)) (judgeLines answer) (now (out .exit)) r ⌝ }
+    ensures { λ r. ⌜ Put (now (out .entry)) 0 (judgeLines answer) (now (out .exit)) r ⌝ }
     ensures { λ r. ⌜ r ≤ 64 ⌝ }
 {
     match answer {
         JudgeAnswer::Good(tracks) => report::put_good(out, tracks as u64),
-        JudgeAnswer::Faulty(fault) => put_fault(out, fault),
+        JudgeAnswer::Faulty(fault) => {
+            report::put_refused(
+                out,
+                judge::fault_number(fault) as u64,
+                judge::fault_place(fault) as u64,
+            )
+        }
         JudgeAnswer::Refused(refusal) => put_refusal(out, refusal),
-    }
-}
-
-fn put_fault(out: &mut [u8], fault: Fault) -> usize
-    requires { ⌜ 64 ≤ length (now out) ⌝ }
-    ensures { λ r. ⌜ Wrote (now (out .entry)) (faultLine fault) (now (out .exit)) r ⌝ }
-    ensures { λ r. ⌜ r ≤ 64 ⌝ }
-{
-    match fault {
-        Fault::Short(place) => report::put_refused(out, 11, place as u64),
-        Fault::Open(place) => report::put_refused(out, 12, place as u64),
-        Fault::Floating(piece) => report::put_refused(out, 13, piece as u64),
     }
 }
 
 // The line of a board judged against a channel that is accepted.
 fn judge_channel(top: &[u32], bot: &[u32], board: &[u8], out: &mut [u8]) -> usize
     requires { ⌜ 64 ≤ length (now out) ⌝ }
-    ensures { λ r. ⌜ Wrote (now (out .entry)) (judgedAgainst (now (board .entry)) (rows (now (top .entry)) (now (bot .entry)))) (now (out .exit)) r ⌝ }
+    ensures { λ r.
+        ⌜ Put (now (out .entry)) 0
+        (judgedAgainst (now (board .entry)) (rows (now (top .entry)) (now (bot .entry))))
+        (now (out .exit)) r ⌝ }
     ensures { λ r. ⌜ r ≤ 64 ⌝ }
 {
-    if 65536 < board.len() {
-        return report::put_refused(out, 0, 65536);
+    if INPUT_LIMIT < board.len() {
+        return put_over(out);
     }
-    let mut scratch = [0u32; 10238];
+    let mut scratch = [0u32; SCRATCH_TRAY];
     put_judged(out, judge::judge(top, bot, board, &mut scratch))
 }
 
@@ -197,31 +250,13 @@ fn judge_channel(top: &[u32], bot: &[u32], board: &[u8], out: &mut [u8]) -> usiz
 pub fn judge_output(pins: &[u8], board: &[u8], out: &mut [u8]) -> usize
     requires { ⌜ 65536 ≤ length (now out) ⌝ }
     ensures { λ r.
-        ⌜ (r ≡ length (judgeOutput (now (pins .entry)) (now (board .entry)))) × (now (out .exit) ≡ sets (now (out .entry)) 0 (judgeOutput (now (pins .entry)) (now (board .entry)))) ⌝ }
+        ⌜ Put (now (out .entry)) 0 (judgeOutput (now (pins .entry)) (now (board .entry))) (now (out .exit)) r ⌝ }
     ensures { λ r. ⌜ Counts r (now (out .exit)) ⌝ }
 {
-    if 65536 < pins.len() {
-        return report::put_refused(out, 0, 65536);
-    }
-    let mut top = [0u32; 512];
-    let mut bot = [0u32; 512];
-    match pinlist::read(pins, &mut top, &mut bot) {
-        ReadAnswer::Refused(refusal) => put_refusal(out, refusal),
-        ReadAnswer::Width(w) => judge_channel(&top[..w], &bot[..w], board, out),
-    }
-}
-
-// Whether a pin list is within the limit and not refused.
-pub fn pins_pass(pins: &[u8]) -> bool
-    ensures { λ r. ⌜ r ≡ pinsPass (now (pins .entry)) ⌝ }
-{
-    if 65536 < pins.len() {
-        return false;
-    }
-    let mut top = [0u32; 512];
-    let mut bot = [0u32; 512];
-    match pinlist::read(pins, &mut top, &mut bot) {
-        ReadAnswer::Refused(_) => false,
-        ReadAnswer::Width(_) => true,
+    let mut top = [0u32; ROW_TRAY];
+    let mut bot = [0u32; ROW_TRAY];
+    match read_pins(pins, &mut top, &mut bot, out) {
+        PinsRead::Refused(size) => size,
+        PinsRead::Width(w) => judge_channel(&top[..w], &bot[..w], board, out),
     }
 }

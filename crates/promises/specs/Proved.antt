@@ -1,31 +1,27 @@
--- Demand 3, proved for every channel that escapes refusals 3 to 6. A filled channel's drawing is a good layout with one trunk piece per net; no
--- such layout exists beside a ring; and the fill is filled or stuck.
-use Prim.Native.Nat.{ℕ, _+_, _≤_, _<_}
+-- Demand 3, proved for every channel that escapes refusals 3 to 6. A filled channel's drawing is a good layout with one
+-- trunk piece per net; no such layout exists beside a ring; and the fill is filled or stuck.
+use Prim.Native.Nat.{ℕ, _≤_, _<_}
 use native.Mathlib.Omega.{arith}
 use native.Mathlib.Decide.{decLt}
-use mathlib.Core.Path.{_≡_, refl, sym, _∙_, ap, subst}
-use mathlib.Core.List.{List, [], _∷_, map}
-use mathlib.Core.Logic.{_↔_, _⊎_, inl, inr, ⊎-elim}
-use mathlib.Core.Bool.{_&&_}
+use mathlib.Core.Path.{_≡_, refl}
+use mathlib.Core.List.{List, [], _∷_}
+use mathlib.Core.Logic.{⊎-elim}
 use lib.ListN.{length, length-map}
-use lib.Dec.{ltb}
-use Rattle.lists.specs.Lists.{upTo}
-use Rattle.lists.specs.Places.{length-from}
 use Rattle.lists.specs.Ranges.{length-each}
-use Rattle.lists.specs.Pigeonhole.{length-keep}
 use Rattle.refusal.specs.Trays.{ringTray, boardTray}
-use Rattle.grid.specs.Pieces.{Layout}
-use Rattle.channel.specs.Channel.{Channel, width, highestNet, nets, isNet, pinCount}
+use Rattle.channel.specs.Channel.{Channel, width, highestNet, nets}
 use Rattle.channel.specs.Density.{density}
-use Rattle.channel.specs.Constraints.{chain, Step, netsOf, Ring, Tangled, Unconstrained}
+use Rattle.channel.specs.Constraints.{chain, Step, Tangled, Unconstrained}
 use Rattle.channel.specs.Answers.{Escapes}
+use Rattle.channel.specs.CountLaws.{nets-few}
 use Rattle.channel.specs.PathLaws.{path-start-spans}
 use Rattle.channel.specs.ChainLaws.{chain-promise}
 use Rattle.wiring.specs.Layouts.{Good, OneTrunkEach}
 use Rattle.wiring.specs.Order.{no-ring}
 use Rattle.wiring.specs.Floor.{density-floor}
 use Rattle.leftedge.specs.Items.{Place}
-use Rattle.leftedge.specs.Fill.{Filling, filled, stuck}
+use Rattle.leftedge.specs.Fill.{filled, stuck}
+use Rattle.leftedge.specs.FillEnds.{filled-or-stuck}
 use Rattle.leftedge.specs.Walk.{ringOf, ringNumbers}
 use Rattle.leftedge.specs.Nets.{netItems, fill, recordOf, records}
 use Rattle.leftedge.specs.NetLaws.{spanning→order}
@@ -36,26 +32,13 @@ use Rattle.boardfile.specs.RoundTrip.{read-back, encoded-length}
 use Rattle.drawing.specs.Draw.{draw}
 use Rattle.drawing.specs.GoodLaws.{drawn-good}
 use Rattle.drawing.specs.CountLaws.{drawn-pieces}
-use Rattle.promises.specs.Router.{Refused, NoLayout, Fewest, RouterPromise, Demand3, TraysFit}
+use Rattle.promises.specs.Router.{Refused, NoLayout, Fewest, Demand3, TraysFit}
 use Rattle.promises.specs.Bounds.{DensityFloor}
 
 pub density-is-floor : DensityFloor
 density-is-floor = density-floor
 
--- a channel has at most 511 nets
-pub nets≤511 : (ch : Channel) → length (nets ch) ≤ highestNet
-unfolding nets
-nets≤511 ch = let k = length-keep (λ n. isNet ch n && ltb 0 (pinCount ch n)) (upTo highestNet) in let e = length-from 1 highestNet in omega arith
-
 module _ (ch : Channel) (esc : Escapes ch) where
-  -- the fill is filled, or stuck
-  filled-or-stuck : ((t : ℕ) × (ps : List Place) × (fill ch ≡ filled t ps)) ⊎ Refused ch
-  filled-or-stuck = go (fill ch) refl
-    where
-      go : (r : Filling) → fill ch ≡ r → ((t : ℕ) × (ps : List Place) × (fill ch ≡ filled t ps)) ⊎ Refused ch
-      go (filled t ps) e = inl (t, ps, e)
-      go (stuck left) e = inr (left, e)
-
   laid-out : (t : ℕ) (ps : List Place) → fill ch ≡ filled t ps → Good ch (draw ch t ps) × OneTrunkEach ch (draw ch t ps)
   laid-out t ps e = drawn-good ch esc t ps (nets-filled ch esc t ps e)
 
@@ -64,13 +47,14 @@ module _ (ch : Channel) (esc : Escapes ch) where
 
   -- beside a ring, or where no layout exists, the fill is stuck
   otherwise-refused : (((t : ℕ) (ps : List Place) → fill ch ≡ filled t ps → ⊥)) → Refused ch
-  otherwise-refused h = ⊎-elim (λ r. absurd (h (r .0) (r .1) (r .2))) (λ r. r) filled-or-stuck
+  otherwise-refused h = ⊎-elim (λ r. absurd (h (r .0) (r .1) (r .2))) (λ r. r) (filled-or-stuck (fill ch))
 
   no-layout→refused : NoLayout ch → Refused ch
   no-layout→refused h = otherwise-refused (λ t ps e. let r = laid-out t ps e in h (draw ch t ps) (r .0) (r .1))
 
   tangled→refused : Tangled ch → Refused ch
-  tangled→refused r = otherwise-refused (λ t ps e. let l = laid-out t ps e in no-ring ch esc (draw ch t ps) (l .0) (l .1) (r .0) (r .1))
+  tangled→refused r =
+      otherwise-refused (λ t ps e. let l = laid-out t ps e in no-ring ch esc (draw ch t ps) (l .0) (l .1) (r .0) (r .1))
 
   module _ (t : ℕ) (ps : List Place) (e : fill ch ≡ filled t ps) where
     untangled : Tangled ch → ⊥
@@ -95,13 +79,31 @@ module _ (ch : Channel) (esc : Escapes ch) where
     unfolding draw
     reads-back =
         let few = tracks≤nets ch esc t ps (nets-filled ch esc t ps e) in
-        let most = nets≤511 ch in
+        let most = nets-few ch in
         let pieces = drawn-pieces ch t ps esc in
-        read-back (width ch) (draw ch t ps) (record { wide = esc .wide; narrow = esc .narrow; tracks = omega arith; pieces = omega arith; onGrid = laid-out t ps e .0 .onGrid })
+        read-back (width ch) (draw ch t ps) (record {
+          wide = esc .wide;
+          narrow = esc .narrow;
+          tracks = omega arith;
+          pieces = omega arith;
+          onGrid = laid-out t ps e .0 .onGrid;
+        })
 
 pub demand3 : Demand3
 demand3 ch esc =
-    record { refused-exactly = (refused→no-layout ch esc, no-layout→refused ch esc); ring-exactly = (λ r. (ringOf (netItems ch) (r .0), stuck-ring ch esc (r .0) (r .1)), tangled→refused ch esc); ring-shown = stuck-ring ch esc; laid-out = laid-out ch esc; fewest = fewest; floors = λ t ps e. (density≤tracks ch esc t ps e, chain≤tracks ch esc t ps e, tracks≤nets ch esc t ps (nets-filled ch esc t ps e)); read-back = reads-back ch esc }
+    record {
+      refused-exactly = (refused→no-layout ch esc, no-layout→refused ch esc);
+      ring-exactly = (λ r. (ringOf (netItems ch) (r .0), stuck-ring ch esc (r .0) (r .1)), tangled→refused ch esc);
+      ring-shown = stuck-ring ch esc;
+      laid-out = laid-out ch esc;
+      fewest = fewest;
+      floors = λ t ps e. (
+        density≤tracks ch esc t ps e,
+        chain≤tracks ch esc t ps e,
+        tracks≤nets ch esc t ps (nets-filled ch esc t ps e),
+      );
+      read-back = reads-back ch esc;
+    }
   where
     fewest : Unconstrained ch → (t : ℕ) (ps : List Place) → fill ch ≡ filled t ps → (t ≡ density ch) × Fewest ch t
     fewest free t ps e =
@@ -114,10 +116,17 @@ demand3 ch esc =
 pub trays-fit : (ch : Channel) → Escapes ch → TraysFit ch
 unfolding records ringNumbers
 trays-fit ch esc =
-    record { records-fit = λ ps. let e = length-map (nets ch) (recordOf ch ps) in omega (arith, most); ring-fits = ring-fits; tracks-fit = tracks-fit; pieces-fit = λ t ps e. drawn-pieces ch t ps esc; board-fits = board-fits }
+    record {
+      records-fit = λ ps. let e = length-map (nets ch) (recordOf ch ps) in
+          omega (arith, most);
+      ring-fits = ring-fits;
+      tracks-fit = tracks-fit;
+      pieces-fit = λ t ps e. drawn-pieces ch t ps esc;
+      board-fits = board-fits;
+    }
   where
-    most : length (nets ch) ≤ 511
-    most = nets≤511 ch
+    most : length (nets ch) ≤ highestNet
+    most = nets-few ch
 
     ring-fits : (left : List ℕ) → fill ch ≡ stuck left → length (ringNumbers (ringOf (netItems ch) left)) ≤ ringTray
     ring-fits left e =
@@ -130,5 +139,7 @@ trays-fit ch esc =
     tracks-fit : (t : ℕ) (ps : List Place) → fill ch ≡ filled t ps → t ≤ 511
     tracks-fit t ps e = let h = tracks≤nets ch esc t ps (nets-filled ch esc t ps e) in omega (arith, most)
 
-    board-fits : (t : ℕ) (ps : List Place) → fill ch ≡ filled t ps → length (encode (width ch) (draw ch t ps)) ≤ boardTray
-    board-fits t ps e = let n = encoded-length (width ch) (draw ch t ps) in let few = drawn-pieces ch t ps esc in omega arith
+    board-fits : (t : ℕ) (ps : List Place) → fill ch ≡ filled t ps
+        → length (encode (width ch) (draw ch t ps)) ≤ boardTray
+    board-fits t ps e =
+        let n = encoded-length (width ch) (draw ch t ps) in let few = drawn-pieces ch t ps esc in omega arith

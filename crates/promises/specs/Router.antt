@@ -1,5 +1,5 @@
--- Demand 3, and demand 2's reading back, as statements: what is promised of the fill, its refusal as tangled and the drawing,
--- over every layout with any number of tracks and pieces.
+-- Demand 3, and demand 2's reading back, as statements: what is promised of the fill, its refusal as tangled and the
+-- drawing, over every layout with any number of tracks and pieces.
 use Prim.Native.Nat.{ℕ, _≤_}
 use mathlib.Core.Path.{_≡_}
 use mathlib.Core.List.{List}
@@ -13,7 +13,7 @@ use Rattle.channel.specs.Constraints.{chain, Ring, Tangled, Unconstrained}
 use Rattle.channel.specs.Answers.{Escapes}
 use Rattle.wiring.specs.Layouts.{Good, OneTrunkEach}
 use Rattle.leftedge.specs.Items.{Place}
-use Rattle.leftedge.specs.Fill.{Filling, filled, stuck}
+use Rattle.leftedge.specs.Fill.{filled, stuck}
 use Rattle.leftedge.specs.Walk.{ringOf, ringNumbers}
 use Rattle.leftedge.specs.Nets.{netItems, fill, records}
 use Rattle.boardfile.specs.Encode.{encode}
@@ -36,10 +36,13 @@ pub record RouterPromise (ch : Channel) : Type 0 where
   pub refused-exactly : Refused ch ↔ NoLayout ch
   pub ring-exactly : Refused ch ↔ Tangled ch
   pub ring-shown : (left : List ℕ) → fill ch ≡ stuck left → Ring ch (ringOf (netItems ch) left)
-  pub laid-out : (t : ℕ) (ps : List Place) → fill ch ≡ filled t ps → Good ch (draw ch t ps) × OneTrunkEach ch (draw ch t ps)
+  pub laid-out : (t : ℕ) (ps : List Place) → fill ch ≡ filled t ps
+      → Good ch (draw ch t ps) × OneTrunkEach ch (draw ch t ps)
   pub fewest : Unconstrained ch → (t : ℕ) (ps : List Place) → fill ch ≡ filled t ps → (t ≡ density ch) × Fewest ch t
-  pub floors : (t : ℕ) (ps : List Place) → fill ch ≡ filled t ps → (density ch ≤ t) × (chain ch ≤ t) × (t ≤ length (nets ch))
-  pub read-back : (t : ℕ) (ps : List Place) → fill ch ≡ filled t ps → ReadsBack (width ch) (draw ch t ps) (encode (width ch) (draw ch t ps))
+  pub floors : (t : ℕ) (ps : List Place) → fill ch ≡ filled t ps
+      → (density ch ≤ t) × (chain ch ≤ t) × (t ≤ length (nets ch))
+  pub read-back : (t : ℕ) (ps : List Place) → fill ch ≡ filled t ps
+      → ReadsBack (width ch) (draw ch t ps) (encode (width ch) (draw ch t ps))
 
 abbrev pub Demand3 : Type 0
 Demand3 = (ch : Channel) → Escapes ch → RouterPromise ch
@@ -50,4 +53,5 @@ pub record TraysFit (ch : Channel) : Type 0 where
   pub ring-fits : (left : List ℕ) → fill ch ≡ stuck left → length (ringNumbers (ringOf (netItems ch) left)) ≤ ringTray
   pub tracks-fit : (t : ℕ) (ps : List Place) → fill ch ≡ filled t ps → t ≤ 511
   pub pieces-fit : (t : ℕ) (ps : List Place) → fill ch ≡ filled t ps → length (draw ch t ps .pieces) ≤ 2559
-  pub board-fits : (t : ℕ) (ps : List Place) → fill ch ≡ filled t ps → length (encode (width ch) (draw ch t ps)) ≤ boardTray
+  pub board-fits : (t : ℕ) (ps : List Place) → fill ch ≡ filled t ps
+      → length (encode (width ch) (draw ch t ps)) ≤ boardTray

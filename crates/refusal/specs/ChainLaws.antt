@@ -1,4 +1,5 @@
--- A chain of refusals is silent exactly if each of its parts is, and what it says is what the first part that speaks says.
+-- A chain of refusals is silent exactly if each of its parts is, and what it says is what the first part that speaks
+-- says.
 use Prim.Native.Nat.{ℕ}
 use mathlib.Core.Path.{_≡_, refl}
 use mathlib.Core.Bool.{Bool, true, false}
@@ -41,7 +42,8 @@ unfolding refuseAtFirst
 none-refuse-at-first r ps h = rw h
 
 -- spoken
-pub or-else-some : (a b : Option Refusal) (r : Refusal) → (a or-else b) ≡ some r → (a ≡ some r) ⊎ ((a ≡ none) × (b ≡ some r))
+pub or-else-some : (a b : Option Refusal) (r : Refusal) → (a or-else b) ≡ some r
+    → (a ≡ some r) ⊎ ((a ≡ none) × (b ≡ some r))
 unfolding _or-else_
 or-else-some none b r h = inr (refl, h)
 or-else-some (some q) b r h = inl h
@@ -65,7 +67,8 @@ unfolding refuseIf
 some-refuse-if true r t = refl
 some-refuse-if false r t = absurd t
 
-pub refuse-at-first-some : (r : ℕ → Refusal) (ps : List ℕ) (s : Refusal) → refuseAtFirst r ps ≡ some s → (p : ℕ) × (getElem? ps 0 ≡ some p) × (r p ≡ s)
+pub refuse-at-first-some : (r : ℕ → Refusal) (ps : List ℕ) (s : Refusal) → refuseAtFirst r ps ≡ some s
+    → (p : ℕ) × (getElem? ps 0 ≡ some p) × (r p ≡ s)
 unfolding refuseAtFirst
 refuse-at-first-some r [] s h = absurd (Option·none-ne-some s h)
 refuse-at-first-some r (p ∷ ps) s h = (p, refl, Option·some-injective (r p) s h)
@@ -75,10 +78,12 @@ unfolding refuseAtFirst
 some-refuse-at-first r p ps = refl
 
 -- the answer
-pub answered-none : {A : Type 0} (refused : Refusal → A) (a : Option Refusal) (success : A) → a ≡ none → answered refused a success ≡ success
+pub answered-none : {A : Type 0} (refused : Refusal → A) (a : Option Refusal) (success : A) → a ≡ none
+    → answered refused a success ≡ success
 unfolding answered
 answered-none refused a success h = rw h
 
-pub answered-some : {A : Type 0} (refused : Refusal → A) (a : Option Refusal) (success : A) (r : Refusal) → a ≡ some r → answered refused a success ≡ refused r
+pub answered-some : {A : Type 0} (refused : Refusal → A) (a : Option Refusal) (success : A) (r : Refusal) → a ≡ some r
+    → answered refused a success ≡ refused r
 unfolding answered
 answered-some refused a success r h = rw h

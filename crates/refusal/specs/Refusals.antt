@@ -1,11 +1,24 @@
--- 01, "The shop's refusal words": the number and the place of each, and how a chain of them is put together in rising number.
+-- 01, "The shop's refusal words": the number and the place of each, and how a chain of them is put together in rising
+-- number.
 use Prim.Native.Nat.{ℕ}
 use mathlib.Core.Bool.{Bool, cond}
 use mathlib.Core.List.{List, [], _∷_}
 use mathlib.Core.Option.{Option, none, some}
 use Rattle.lists.specs.Lists.{overlay}
 use Rattle.refusal.specs.declared.Refusal.{Refusal}
-use Rattle.refusal.specs.declared.Refusal.the-variants.{ShortTray, Garbled, TooWide, Uneven, HighNet, LonePin, Tangled, Torn, BadField, WrongBoard, NoBlank}
+use Rattle.refusal.specs.declared.Refusal.the-variants.{
+  ShortTray,
+  Garbled,
+  TooWide,
+  Uneven,
+  HighNet,
+  LonePin,
+  Tangled,
+  Torn,
+  BadField,
+  WrongBoard,
+  NoBlank,
+}
 
 -- the column "No"
 abbrev pub numberOf : Refusal → ℕ
@@ -40,11 +53,19 @@ pub record Told : Type 0 where
   pub number : ℕ
   pub values : List ℕ
 
+abbrev pub toldAt : ℕ → ℕ → Told
+toldAt number place = record { number = number; values = place ∷ [] }
+
 abbrev pub toldRefusal : Refusal → Told
-toldRefusal r = record { number = numberOf r; values = placeOf r ∷ [] }
+toldRefusal r = toldAt (numberOf r) (placeOf r)
 
 abbrev pub toldValues : List ℕ → Told
 toldValues vs = record { number = 0; values = vs }
+
+-- an operation's answer in 01's numbers: its refusal's, or 0 and the values
+unfoldable pub toldBy : Option Refusal → List ℕ → Told
+toldBy none vs = toldValues vs
+toldBy (some r) vs = toldRefusal r
 
 -- refused under this condition
 unfoldable pub refuseIf : Bool → Refusal → Option Refusal

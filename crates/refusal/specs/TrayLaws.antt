@@ -1,19 +1,20 @@
--- Refusal 1 is silent exactly if every buffer is as long as it must be; and no refusal has the number 0, which tells a success.
-use Prim.Native.Nat.{ℕ, _≤_, _<_}
+-- Refusal 1 is silent exactly if every buffer is as long as it must be; and no refusal has the number 0, which tells a
+-- success.
+use Prim.Native.Nat.{_≤_, _<_}
 use native.Mathlib.Omega.{arith}
 use native.Mathlib.Decide.{decLe}
-use mathlib.Core.Path.{_≡_, sym, ap}
+use mathlib.Core.Path.{_≡_}
 use mathlib.Core.List.{List, [], map, List·Memᴰ, Memᴰ·map, Memᴰ·of-map, List·Memᴰ·not-nil}
 use mathlib.Core.Logic.{_↔_}
 use mathlib.Core.Bool.{Bool}
 use mathlib.Core.Option.{none}
-use lib.ListN.{length}
-use lib.Dec.{T, ltb, ltb→lt, lt→ltb}
+use lib.Dec.{ltb, ltb→lt, lt→ltb}
 use Rattle.lists.specs.Lists.{keep}
 use Rattle.lists.specs.Members.{keep-member, kept}
 use Rattle.lists.specs.Ranges.{no-member→empty}
 use Rattle.refusal.specs.declared.Refusal.{Refusal}
-use Rattle.refusal.specs.declared.Refusal.the-variants.{ShortTray, Garbled, TooWide, Uneven, HighNet, LonePin, Tangled, Torn, BadField, WrongBoard, NoBlank}
+use Rattle.refusal.specs.declared.Refusal.the-variants.{ShortTray, Garbled, TooWide, Uneven, HighNet, LonePin}
+use Rattle.refusal.specs.declared.Refusal.the-variants.{Tangled, Torn, BadField, WrongBoard, NoBlank}
 use Rattle.refusal.specs.Refusals.{numberOf}
 use Rattle.refusal.specs.ChainLaws.{refuse-at-first-none, none-refuse-at-first}
 use Rattle.refusal.specs.Trays.{Tray, shortTray}
@@ -28,12 +29,21 @@ trays-fit trays = (fits, silent)
     fits : shortTray trays ≡ none → (b : Tray) → List·Memᴰ b trays → b .needed ≤ b .lent
     fits h b m =
         let empty = refuse-at-first-none ShortTray (map (λ (t : Tray). t .needed) (keep lacks trays)) h in
-        elim (decLe (b .needed) (b .lent)) [ yes k ↦ k | no k ↦ absurd (let z : List·Memᴰ (b .needed) [] = rw empty at (Memᴰ·map (λ (t : Tray). t .needed) (kept lacks m (lt→ltb (b .lent) (b .needed) (omega arith)))) in List·Memᴰ·not-nil z) ]
+        elim (decLe (b .needed) (b .lent)) [
+          | yes k ↦ k
+          | no k ↦
+              absurd (let z : List·Memᴰ (b .needed) [] = rw empty at
+              (Memᴰ·map (λ (t : Tray). t .needed) (kept lacks m (lt→ltb (b .lent) (b .needed) (omega arith)))) in
+              List·Memᴰ·not-nil z)
+        ]
 
     silent : ((b : Tray) → List·Memᴰ b trays → b .needed ≤ b .lent) → shortTray trays ≡ none
     silent h =
         none-refuse-at-first ShortTray (map (λ (t : Tray). t .needed) (keep lacks trays))
-        (no-member→empty (map (λ (t : Tray). t .needed) (keep lacks trays)) (λ n m. let r = Memᴰ·of-map (λ (t : Tray). t .needed) (keep lacks trays) m in let k = keep-member lacks trays (r .1) in let a = h (r .0) (k .0) in let b = ltb→lt (r .0 .lent) (r .0 .needed) (k .1) in omega arith))
+        (no-member→empty (map (λ (t : Tray). t .needed) (keep lacks trays))
+        (λ n m. let r = Memᴰ·of-map (λ (t : Tray). t .needed) (keep lacks trays) m in
+        let k = keep-member lacks trays (r .1) in let a = h (r .0) (k .0) in
+        let b = ltb→lt (r .0 .lent) (r .0 .needed) (k .1) in omega arith))
 
 pub refusal-numbered : (r : Refusal) → 0 < numberOf r
 refusal-numbered (ShortTray p) = omega arith

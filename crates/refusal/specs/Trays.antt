@@ -1,7 +1,6 @@
 -- 01, refusal 1: the lengths that lent buffers must have, in the order in which they are asked.
 use Prim.Native.Nat.{ℕ}
-use mathlib.Core.Bool.{Bool, cond}
-use mathlib.Core.List.{List, [], _∷_, map}
+use mathlib.Core.List.{List, map}
 use mathlib.Core.Option.{Option}
 use lib.Dec.{ltb}
 use Rattle.lists.specs.Lists.{keep}

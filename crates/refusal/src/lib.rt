@@ -1,7 +1,8 @@
 ghost use mathlib.Core.Path.{_≡_};
 ghost use Rattle.refusal.specs.Refusals.{numberOf, placeOf};
 
-// The lengths that lent buffers must have, asked by refusal 1: a row, the table of net records, the ring, the board file written, and the judge's scratch.
+// The lengths that lent buffers must have, asked by refusal 1: a row, the table of net records, the ring, the board
+// file written, and the judge's scratch.
 pub const ROW_TRAY: usize = 512;
 
 pub const RECORD_TRAY: usize = 511;

@@ -1,28 +1,30 @@
--- 01, "Judge, blanks, programs": the lines that programs print. "Fields are parted by one space, lines end in one line feed."
+-- 01, "Judge, blanks, programs": the lines that programs print.
 use Prim.Native.Nat.{ℕ}
 use Prim.Native.String.{String}
-use mathlib.Core.List.{List, [], _∷_, _++_}
+use mathlib.Core.List.{List, [], _∷_}
+use mathlib.Core.Bool.{cond}
+use lib.Dec.{eqb}
 use Rattle.lists.specs.Lists.{each}
-use Rattle.lists.specs.Bytes.{bytes, decimal}
 use Rattle.refusal.specs.declared.Refusal.{Refusal}
-use Rattle.refusal.specs.Refusals.{numberOf, placeOf}
+use Rattle.refusal.specs.Refusals.{Told, toldRefusal}
 use Rattle.channel.specs.Constraints.{Step}
 use Rattle.leftedge.specs.declared.NetRecord.{NetRecord}
-
--- a word and numbers
-unfoldable pub line : String → List ℕ → List ℕ
-line word numbers = bytes word ++ (each (λ n. 0x20 ∷ decimal n) numbers ++ (0x0A ∷ []))
+use Rattle.text.specs.Lines.{line}
 
 -- "Any refusal or fault prints REFUSED, number, place"
-unfoldable pub refusedLine : ℕ → ℕ → List ℕ
-refusedLine number place = line "REFUSED" (number ∷ place ∷ [])
+unfoldable pub refusedLine : Told → List ℕ
+refusedLine told = line "REFUSED" (told .number ∷ told .values)
+
+-- the word of a success and the values answered, or the line of a refusal or fault
+unfoldable pub toldLine : String → Told → List ℕ
+toldLine word told = cond (eqb (told .number) 0) (line word (told .values)) (refusedLine told)
+
+abbrev pub refusalLine : Refusal → List ℕ
+refusalLine r = refusedLine (toldRefusal r)
 
 -- "tangled adds a line RING, net, column per pair"
 unfoldable pub ringLines : List Step → List ℕ
 ringLines steps = each (λ s. line "RING" (s .net ∷ s .column ∷ [])) steps
-
-unfoldable pub refusalLines : List Step → Refusal → List ℕ
-refusalLines steps r = refusedLine (numberOf r) (placeOf r) ++ ringLines steps
 
 -- "BOARD: width, tracks, blank"
 unfoldable pub boardLine : ℕ → ℕ → ℕ → List ℕ
@@ -39,7 +41,3 @@ netLine r = line "NET" (r .number .0 ∷ r .first .0 ∷ r .last .0 ∷ r .track
 -- "END: pieces"
 unfoldable pub endLine : ℕ → List ℕ
 endLine pieces = line "END" (pieces ∷ [])
-
--- "printing GOOD and tracks"
-unfoldable pub goodLine : ℕ → List ℕ
-goodLine tracks = line "GOOD" (tracks ∷ [])

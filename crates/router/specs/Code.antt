@@ -3,7 +3,7 @@ use Prim.Native.Nat.{ℕ, _≤_}
 use mathlib.Core.Path.{_≡_}
 use mathlib.Core.List.{List, []}
 use mathlib.Core.Option.{Option, none, some}
-use lib.ListN.{length, take}
+use lib.ListN.{length}
 use Rattle.refusal.specs.declared.Refusal.{Refusal}
 use Rattle.refusal.specs.Trays.{Tray, recordTray, ringTray, boardTray}
 use Rattle.channel.specs.Channel.{Channel}
@@ -12,8 +12,18 @@ use Rattle.leftedge.specs.declared.NetRecord.{NetRecord}
 use Rattle.leftedge.specs.Nets.{fill}
 use Rattle.router.specs.declared.Routing.{Routing}
 use Rattle.router.specs.declared.Routed.{Routed}
-use Rattle.router.specs.Route.{recordsMade, routeTrays, routeTraysWithRecords, routeRefusal, routeAnswer, recordsAfter, boardAfter, ringAfter}
+use Rattle.router.specs.Route.{
+  recordsMade,
+  routeTrays,
+  routeTraysWithRecords,
+  routeRefusal,
+  routeAnswer,
+  recordsAfter,
+  boardAfter,
+  ringAfter,
+}
 use Rattle.router.specs.Contract.{RoutePromise}
+use Rattle.router.specs.Tables.{noRecords}
 
 -- the records answered by value: none under a refusal
 unfoldable pub recordsUnless : Option Refusal → List NetRecord → List NetRecord
@@ -24,8 +34,9 @@ module _ (ch : Channel) (table : List NetRecord) (ring board : List ℕ) where
   abbrev trays : List Tray
   trays = routeTraysWithRecords (length table) (length ring) (length board)
 
-  -- What `route` answers, and what the caller's table and buffers then hold. Rules out: rows answered for, with the board untouched (boardHeld); a record
-  -- with first and last exchanged, or a table written under a refusal (tableHeld); and with the promise the wrong programs of RoutePromise.
+  -- What `route` answers, and what the caller's table and buffers then hold. Rules out: rows answered for, with the
+  -- board untouched (boardHeld); a record with first and last exchanged, or a table written under a refusal
+  -- (tableHeld); and with the promise the wrong programs of RoutePromise.
   pub record RouteDone (r : Routed) (table′ : List NetRecord) (ring′ board′ : List ℕ) : Type 0 where
     pub answer : r .answer ≡ routeAnswer trays ch
     pub counted : r .count ≡ length (recordsUnless (routeRefusal trays ch) (recordsMade ch (fill ch)))
@@ -33,15 +44,22 @@ module _ (ch : Channel) (table : List NetRecord) (ring board : List ℕ) where
     pub ringHeld : ring′ ≡ ringAfter trays ch ring
     pub boardHeld : board′ ≡ boardAfter trays ch board
     -- demand 3 whole, for every channel that escapes refusals 1 to 6
-    pub promise : recordTray ≤ length table → ringTray ≤ length ring → boardTray ≤ length board → Escapes ch → RoutePromise ch (r .answer) ring′ board′
+    pub promise : recordTray ≤ length table → ringTray ≤ length ring → boardTray ≤ length board → Escapes ch
+        → RoutePromise ch (r .answer) ring′ board′
 
--- What `route_rows` answers, the records by value, and what the caller's buffers then hold. Rules out: records of other nets or tracks (records); a ring
--- written for a channel that is not tangled (ringHeld).
-pub record RowsDone (ch : Channel) (ring board : List ℕ) (r : Routing) (ring′ board′ : List ℕ) : Type 0 where
-  pub answer : r .answer ≡ routeAnswer (routeTrays (length ring) (length board)) ch
-  pub counted : r .count ≡ length (recordsUnless (routeRefusal (routeTrays (length ring) (length board)) ch) (recordsMade ch (fill ch)))
-  pub table : take (r .count) (r .records) ≡ recordsUnless (routeRefusal (routeTrays (length ring) (length board)) ch) (recordsMade ch (fill ch))
-  pub ringHeld : ring′ ≡ ringAfter (routeTrays (length ring) (length board)) ch ring
-  pub boardHeld : board′ ≡ boardAfter (routeTrays (length ring) (length board)) ch board
-  -- demand 3 whole, for every channel that escapes refusals 1 to 6
-  pub promise : ringTray ≤ length ring → boardTray ≤ length board → Escapes ch → RoutePromise ch (r .answer) ring′ board′
+module _ (ch : Channel) (ring board : List ℕ) where
+  abbrev buffers : List Tray
+  buffers = routeTrays (length ring) (length board)
+
+  -- What `route_rows` answers, the records by value, and what the caller's buffers then hold. Rules out: records of
+  -- other nets or tracks, and any but nobody's past the count (table); a ring written for a channel that is not
+  -- tangled (ringHeld).
+  pub record RowsDone (r : Routing) (ring′ board′ : List ℕ) : Type 0 where
+    pub answer : r .answer ≡ routeAnswer buffers ch
+    pub counted : r .count ≡ length (recordsUnless (routeRefusal buffers ch) (recordsMade ch (fill ch)))
+    pub table : r .records ≡ recordsAfter buffers ch noRecords
+    pub ringHeld : ring′ ≡ ringAfter buffers ch ring
+    pub boardHeld : board′ ≡ boardAfter buffers ch board
+    -- demand 3 whole, for every channel that escapes refusals 1 to 6
+    pub promise : ringTray ≤ length ring → boardTray ≤ length board → Escapes ch
+        → RoutePromise ch (r .answer) ring′ board′

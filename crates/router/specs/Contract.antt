@@ -18,15 +18,16 @@ use Rattle.router.specs.declared.RouteAnswer.{RouteAnswer}
 use Rattle.router.specs.declared.RouteAnswer.the-variants.{Routed, Refused}
 use Rattle.router.specs.Route.{layoutDrawn, routeTold}
 
--- the front of the ring buffer is a ring of k different nets, each above the next in its named column, and the last above the first
+-- the front of the ring buffer is a ring of k different nets, each above the next in its named column, and the last
+-- above the first
 pub record ShowsRing (ch : Channel) (k : ℕ) (ring : List ℕ) : Type 0 where
   pub steps : List Step
   pub counted : length steps ≡ k
   pub isRing : Ring ch steps
   pub stored : take (2 * k) ring ≡ ringNumbers steps
 
--- the board file of n pieces at the front of the board: it opens, has the channel's width and t tracks, holds just the pieces drawn, and these are a
--- good layout with at most one trunk piece per net
+-- the board file of n pieces at the front of the board: it opens, has the channel's width and t tracks, holds just the
+-- pieces drawn, and these are a good layout with at most one trunk piece per net
 pub record HoldsLayout (ch : Channel) (t n : ℕ) (file : List ℕ) : Type 0 where
   pub opens : openRefusal file ≡ none
   pub sameWidth : fileWidth file ≡ width ch
@@ -36,8 +37,9 @@ pub record HoldsLayout (ch : Channel) (t n : ℕ) (file : List ℕ) : Type 0 whe
   pub good : Good ch (fileLayout file)
   pub oneTrunkEach : OneTrunkEach ch (fileLayout file)
 
--- Demand 3, of the answer r and of the ring and board that the caller then holds. Rules out: a router that calls each channel tangled, or does so
--- before filling (tangled-exactly); one that hands out the same or an empty board (laid-out); tracks answered one too many (laid-out, fewest).
+-- Demand 3, of the answer r and of the ring and board that the caller then holds. Rules out: a router that calls each
+-- channel tangled, or does so before filling (tangled-exactly); one that hands out the same or an empty board
+-- (laid-out); tracks answered one too many (laid-out, fewest).
 pub record RoutePromise (ch : Channel) (r : RouteAnswer) (ring board : List ℕ) : Type 0 where
   -- "refuses .. as tangled exactly when no good layout of it with at most one trunk piece per net exists"
   pub tangled-exactly : (routeTold r .number ≡ 7) ↔ NoLayout ch
@@ -48,7 +50,8 @@ pub record RoutePromise (ch : Channel) (r : RouteAnswer) (ring board : List ℕ)
   -- "Every other such channel gets a good layout with at most one trunk piece per net"
   pub every-other : (routeTold r .number ≡ 7 → ⊥) → (t n : ℕ) × (r ≡ Routed t n)
   pub laid-out : (t n : ℕ) → r ≡ Routed t n → HoldsLayout ch t n (take (4 + 4 * n) board)
-  -- "Where no column holds pins of two different nets, the tracks .. equal the density, and every other good layout .. has at least as many"
+  -- "Where no column holds pins of two different nets, the tracks .. equal the density, and every other good layout ..
+  -- has at least as many"
   pub fewest : Unconstrained ch → (t n : ℕ) → r ≡ Routed t n → (t ≡ density ch) × Fewest ch t
   -- 01, "Filling tracks": "Density and chain are each at most t, and t is at most the number of nets"
   pub floors : (t n : ℕ) → r ≡ Routed t n → (density ch ≤ t) × (chain ch ≤ t) × (t ≤ length (nets ch))

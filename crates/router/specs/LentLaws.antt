@@ -1,15 +1,16 @@
--- From the routing by value to the table that the caller lends, and back to a table by value: the chain of refusals with the table's in front.
+-- From the routing by value to the table that the caller lends, and back to a table by value: the chain of refusals
+-- with the table's in front.
 use Prim.Native.Nat.{ℕ, _≤_, _<_}
 use native.Mathlib.Omega.{arith}
 use native.Mathlib.Decide.{decLe}
-use mathlib.Core.Path.{_≡_, refl, sym, _∙_, ap, subst⁻¹}
+use mathlib.Core.Path.{_≡_, refl, sym, _∙_, ap, subst}
 use mathlib.Core.List.{List}
 use mathlib.Core.Option.{Option, none, some}
-use lib.ListN.{length, take, drop, length-map}
-use lib.Seq.{take-at}
+use lib.ListN.{length, take, length-map, length-replicate}
 use lib.Dec.{ltb, ltb→lt, lt→ltb}
 use Rattle.lists.specs.Lists.{keep, overlay}
 use Rattle.lists.specs.Tests.{T→true, fails→false}
+use Rattle.lists.specs.Overlays.{overlay-front}
 use Rattle.refusal.specs.declared.Refusal.{Refusal}
 use Rattle.refusal.specs.declared.Refusal.the-variants as refusal
 use Rattle.refusal.specs.Refusals.{refuseAtFirst, _or-else_, filledUnless}
@@ -17,16 +18,26 @@ use Rattle.refusal.specs.ChainLaws.{some-or-else}
 use Rattle.refusal.specs.Trays.{Tray, recordTray, ringTray, boardTray, shortTray}
 use Rattle.channel.specs.Channel.{Channel, nets}
 use Rattle.channel.specs.Answers.{Escapes, rowsRefusal}
+use Rattle.channel.specs.CountLaws.{nets-few}
 use Rattle.leftedge.specs.declared.NetRecord.{NetRecord}
 use Rattle.leftedge.specs.Fill.{Filling, filled, stuck}
 use Rattle.leftedge.specs.Nets.{fill, recordOf, records}
-use Rattle.promises.specs.Proved.{nets≤511}
 use Rattle.router.specs.declared.Routing.{Routing}
 use Rattle.router.specs.declared.Routed.{Routed}
-use Rattle.router.specs.declared.RouteAnswer.{RouteAnswer}
-use Rattle.router.specs.Route.{tangled, recordsMade, routeTrays, routeTraysWithRecords, routeRefusal, routeAnswer, recordsAfter, boardAfter, ringAfter}
+use Rattle.router.specs.Route.{
+  tangled,
+  recordsMade,
+  routeTrays,
+  routeTraysWithRecords,
+  routeRefusal,
+  routeAnswer,
+  recordsAfter,
+  boardAfter,
+  ringAfter,
+}
 use Rattle.router.specs.Contract.{RoutePromise}
 use Rattle.router.specs.ContractLaws.{route-promise}
+use Rattle.router.specs.Tables.{nobody, noRecords}
 use Rattle.router.specs.Code.{recordsUnless, RouteDone, RowsDone}
 use Rattle.router.specs.CodeLaws.{HeldBy, Held, room}
 
@@ -37,7 +48,9 @@ module _ (ch : Channel) (table ring board : ℕ) where
   -- a table that is too short is refused first
   pub short-table : table < recordTray → routeRefusal longer ch ≡ some (refusal.ShortTray recordTray)
   unfolding routeRefusal shortTray keep refuseAtFirst
-  short-table h = some-or-else (shortTray longer) (rowsRefusal ch or-else tangled ch (fill ch)) (refusal.ShortTray recordTray) (rw (T→true (ltb table recordTray) (lt→ltb table recordTray h)))
+  short-table h =
+      some-or-else (shortTray longer) (rowsRefusal ch or-else tangled ch (fill ch)) (refusal.ShortTray recordTray)
+      (rw (T→true (ltb table recordTray) (lt→ltb table recordTray h)))
 
   -- one that is long enough changes nothing in the chain
   module _ (h : recordTray ≤ table) where
@@ -72,72 +85,130 @@ module _ (ch : Channel) (table : ℕ) (ring board : List ℕ) (h : recordTray �
   unfolding boardAfter
   same-board = rw same
 
-  pub same-records : recordsUnless (routeRefusal chain ch) (recordsMade ch (fill ch)) ≡ recordsUnless (routeRefusal shorter ch) (recordsMade ch (fill ch))
-  same-records = rw same
+  pub same-count : length (recordsUnless (routeRefusal chain ch) (recordsMade ch (fill ch)))
+      ≡ length (recordsUnless (routeRefusal shorter ch) (recordsMade ch (fill ch)))
+  same-count = rw same
 
-  pub widened : {r : Routing} {ring′ board′ : List ℕ} → Held ch ring board r ring′ board′ → HeldBy chain ch ring board r ring′ board′
-  widened e = record { answer = e .answer ∙ sym same-answer; counted = e .counted ∙ sym (ap length same-records); table = e .table ∙ sym same-records; ringHeld = e .ringHeld ∙ sym same-ring; boardHeld = e .boardHeld ∙ sym same-board }
+  pub same-table : recordsAfter chain ch noRecords ≡ recordsAfter shorter ch noRecords
+  unfolding recordsAfter
+  same-table = rw same
+
+  pub widened : {r : Routing} {ring′ board′ : List ℕ} → Held ch ring board r ring′ board′
+      → HeldBy chain ch ring board r ring′ board′
+  widened e =
+      record {
+        answer = e .answer ∙ sym same-answer;
+        counted = e .counted ∙ sym same-count;
+        table = e .table ∙ sym same-table;
+        ringHeld = e .ringHeld ∙ sym same-ring;
+        boardHeld = e .boardHeld ∙ sym same-board;
+      }
 
 -- there are never more records than the table must hold
 made-fits : (ch : Channel) (f : Filling) → length (recordsMade ch f) ≤ recordTray
 unfolding recordsMade records
-made-fits ch (filled t ps) = let e = length-map (nets ch) (recordOf ch ps) in let m = nets≤511 ch in omega arith
+made-fits ch (filled t ps) = let e = length-map (nets ch) (recordOf ch ps) in let m = nets-few ch in omega arith
 made-fits ch (stuck left) = omega arith
 
 -- where nothing is refused, the table is long enough
-lent-enough : (ch : Channel) (table ring board : ℕ) → routeRefusal (routeTraysWithRecords table ring board) ch ≡ none → recordTray ≤ table
-lent-enough ch table ring board h = elim (decLe recordTray table) [ yes k ↦ k | no k ↦ absurd (let z = sym h ∙ short-table ch table ring board (omega arith) in let y : _≡_ {A = ℕ} 0 1 = cc in omega arith) ]
+lent-enough : (ch : Channel) (table ring board : ℕ) → routeRefusal (routeTraysWithRecords table ring board) ch ≡ none
+    → recordTray ≤ table
+lent-enough ch table ring board h =
+    elim (decLe recordTray table) [
+      | yes k ↦ k
+      | no k ↦
+          absurd (let z = sym h ∙ short-table ch table ring board (omega arith) in let y : _≡_ {A = ℕ} 0 1 = cc in
+          omega arith)
+    ]
 
 -- what is stored is within the table made and the table lent
-pub held-fits : {ch : Channel} {table : ℕ} {ring board : List ℕ} {r : Routing} {ring′ board′ : List ℕ} → HeldBy (routeTraysWithRecords table (length ring) (length board)) ch ring board r ring′ board′ → (r .count ≤ 511) × (r .count ≤ table)
+pub held-fits : {ch : Channel} {table : ℕ} {ring board : List ℕ} {r : Routing} {ring′ board′ : List ℕ}
+    → HeldBy (routeTraysWithRecords table (length ring) (length board)) ch ring board r ring′ board′
+    → (r .count ≤ 511) × (r .count ≤ table)
 unfolding recordsUnless
-held-fits {ch} {table} {ring} {board} {r} e = go (routeRefusal (routeTraysWithRecords table (length ring) (length board)) ch) refl
+held-fits {ch} {table} {ring} {board} {r} e =
+    go (routeRefusal (routeTraysWithRecords table (length ring) (length board)) ch) refl
   where
-    go : (q : Option Refusal) → routeRefusal (routeTraysWithRecords table (length ring) (length board)) ch ≡ q → (r .count ≤ 511) × (r .count ≤ table)
+    go : (q : Option Refusal) → routeRefusal (routeTraysWithRecords table (length ring) (length board)) ch ≡ q
+        → (r .count ≤ 511) × (r .count ≤ table)
     go none h =
-        let n : r .count ≡ length (recordsMade ch (fill ch)) = e .counted ∙ ap (λ (x : Option Refusal). length (recordsUnless x (recordsMade ch (fill ch)))) h in
+        let n : r .count ≡ length (recordsMade ch (fill ch)) = e .counted
+        ∙ ap (λ (x : Option Refusal). length (recordsUnless x (recordsMade ch (fill ch)))) h in
         let most = made-fits ch (fill ch) in
         let lent = lent-enough ch table (length ring) (length board) h in
         (omega arith, omega arith)
-    go (some q) h = let n : r .count ≡ 0 = e .counted ∙ ap (λ (x : Option Refusal). length (recordsUnless x (recordsMade ch (fill ch)))) h in (omega arith, omega arith)
+    go (some q) h =
+        let n : r .count ≡ 0 = e .counted ∙ ap (λ (x : Option Refusal). length
+        (recordsUnless x (recordsMade ch (fill ch)))) h in (omega arith, omega arith)
 
 -- the records laid over the front of the table are those of the definition
-stored : (q : Option Refusal) (made table : List NetRecord) → overlay (recordsUnless q made) table ≡ filledUnless q made table
+stored : (q : Option Refusal) (made table : List NetRecord)
+    → overlay (recordsUnless q made) table ≡ filledUnless q made table
 unfolding recordsUnless filledUnless
 stored none made table = refl
 stored (some q) made table = refl
 
+-- so a table's front, as far as is counted, is the records answered
+front : (q : Option Refusal) (made : List NetRecord) {table : List NetRecord} {count : ℕ}
+    → table ≡ filledUnless q made noRecords → count ≡ length (recordsUnless q made)
+    → take count table ≡ recordsUnless q made
+front q made e n = rw (e, n, ← stored q made noRecords) (overlay-front (recordsUnless q made) noRecords)
+
+-- of the table answered by value: what stands there as far as is counted
+pub rows-front : {ch : Channel} {ring board ring′ board′ : List ℕ} {r : Routing} → RowsDone ch ring board r ring′ board′
+    → take (r .count) (r .records)
+    ≡ recordsUnless (routeRefusal (routeTrays (length ring) (length board)) ch) (recordsMade ch (fill ch))
+unfolding recordsAfter
+rows-front d = front _ _ (d .table) (d .counted)
+
 -- the table stored at the front of the lent one
-pub lent-done : {ch : Channel} {table table′ : List NetRecord} {ring board ring′ board′ : List ℕ} {r : Routing} {q : Routed} → HeldBy (routeTraysWithRecords (length table) (length ring) (length board)) ch ring board r ring′ board′ → table′ ≡ overlay (take (r .count) (r .records)) table → (q .answer ≡ r .answer) × (q .count ≡ r .count) → RouteDone ch table ring board q table′ ring′ board′
+pub lent-done : {ch : Channel} {table table′ : List NetRecord} {ring board ring′ board′ : List ℕ}
+    {r : Routing} {q : Routed}
+    → HeldBy (routeTraysWithRecords (length table) (length ring) (length board)) ch ring board r ring′ board′
+    → table′ ≡ overlay (take (r .count) (r .records)) table → (q .answer ≡ r .answer) × (q .count ≡ r .count)
+    → RouteDone ch table ring board q table′ ring′ board′
 unfolding recordsAfter
 lent-done {ch} {table} {table′} {ring} {board} {ring′} {board′} {r} {q} e t a =
-    record { answer = a .0 ∙ e .answer; counted = a .1 ∙ e .counted; tableHeld = t ∙ (ap (λ (made : List NetRecord). overlay made table) (e .table) ∙ stored (routeRefusal trays ch) (recordsMade ch (fill ch)) table); ringHeld = e .ringHeld; boardHeld = e .boardHeld; promise = promise }
+    record {
+      answer = a .0 ∙ e .answer;
+      counted = a .1 ∙ e .counted;
+      tableHeld = t ∙ rw (front _ _ (e .table) (e .counted)) (stored _ _ table);
+      ringHeld = e .ringHeld;
+      boardHeld = e .boardHeld;
+      promise = promise;
+    }
   where
     trays : List Tray
     trays = routeTraysWithRecords (length table) (length ring) (length board)
 
-    promise : recordTray ≤ length table → ringTray ≤ length ring → boardTray ≤ length board → Escapes ch → RoutePromise ch (q .answer) ring′ board′
+    promise : recordTray ≤ length table → ringTray ≤ length ring → boardTray ≤ length board → Escapes ch
+        → RoutePromise ch (q .answer) ring′ board′
     promise ht hr hb esc =
-        subst⁻¹ (λ (x : RouteAnswer). RoutePromise ch x ring′ board′) (a .0 ∙ e .answer)
-        (subst⁻¹ (λ (x : List ℕ). RoutePromise ch (routeAnswer trays ch) x board′) (e .ringHeld)
-        (subst⁻¹ (λ (x : List ℕ). RoutePromise ch (routeAnswer trays ch) (ringAfter trays ch ring) x) (e .boardHeld)
-        (route-promise trays ch (same-trays ch (length table) (length ring) (length board) ht ∙ room (length ring) (length board) hr hb) esc ring board)))
+        let same = same-trays ch (length table) (length ring) (length board) ht in
+        let fits = same ∙ room (length ring) (length board) hr hb in
+        rw (a .0, e .answer, e .ringHeld, e .boardHeld) (route-promise trays ch fits esc ring board)
 
 -- a table of its own, lent and then answered by value
-pub rows-done : {ch : Channel} {table table′ : List NetRecord} {ring board ring′ board′ : List ℕ} {q : Routed} {r : Routing} → length table ≡ recordTray → RouteDone ch table ring board q table′ ring′ board′ → (r .answer ≡ q .answer) × (r .records ≡ table′) × (r .count ≡ q .count) → RowsDone ch ring board r ring′ board′
-unfolding recordsAfter
-rows-done {ch} {table} {table′} {ring} {board} {ring′} {board′} {q} {r} size d a =
-    record { answer = a .0 ∙ (d .answer ∙ same-answer ch (length table) ring board fits); counted = a .2 ∙ counted; table = front; ringHeld = d .ringHeld ∙ same-ring ch (length table) ring board fits; boardHeld = d .boardHeld ∙ same-board ch (length table) ring board fits; promise = λ hr hb esc. subst⁻¹ (λ (x : RouteAnswer). RoutePromise ch x ring′ board′) (a .0) (d .promise fits hr hb esc) }
+pub rows-done : {ch : Channel} {table table′ : List NetRecord} {ring board ring′ board′ : List ℕ}
+    {q : Routed} {r : Routing}
+    → table ≡ noRecords → RouteDone ch table ring board q table′ ring′ board′
+    → (r .answer ≡ q .answer) × (r .records ≡ table′) × (r .count ≡ q .count) → RowsDone ch ring board r ring′ board′
+unfolding noRecords
+rows-done {ch} {table} {table′} {ring} {board} {ring′} {board′} {q} {r} blank given a =
+    record {
+      answer = a .0 ∙ (d .answer ∙ same-answer ch size ring board fits);
+      counted = a .2 ∙ (d .counted ∙ same-count ch size ring board fits);
+      table = a .1 ∙ (d .tableHeld ∙ same-table ch size ring board fits);
+      ringHeld = d .ringHeld ∙ same-ring ch size ring board fits;
+      boardHeld = d .boardHeld ∙ same-board ch size ring board fits;
+      promise = λ hr hb esc. rw (a .0) (d .promise fits hr hb esc);
+    }
   where
-    fits : recordTray ≤ length table
-    fits = omega arith
+    d : RouteDone ch noRecords ring board q table′ ring′ board′
+    d = subst (λ (t : List NetRecord). RouteDone ch t ring board q table′ ring′ board′) blank given
 
-    counted : q .count ≡ length (recordsUnless (routeRefusal (routeTrays (length ring) (length board)) ch) (recordsMade ch (fill ch)))
-    counted = d .counted ∙ ap length (same-records ch (length table) ring board fits)
+    size : ℕ
+    size = length noRecords
 
-    front : take (r .count) (r .records) ≡ recordsUnless (routeRefusal (routeTrays (length ring) (length board)) ch) (recordsMade ch (fill ch))
-    front =
-        let made = recordsUnless (routeRefusal (routeTraysWithRecords (length table) (length ring) (length board)) ch) (recordsMade ch (fill ch)) in
-        let laid : r .records ≡ overlay made table = a .1 ∙ (d .tableHeld ∙ sym (stored (routeRefusal (routeTraysWithRecords (length table) (length ring) (length board)) ch) (recordsMade ch (fill ch)) table)) in
-        let size : length made ≡ r .count = sym (a .2 ∙ d .counted) in
-        ap (take (r .count)) laid ∙ (take-at made (drop (length made) table) (r .count) size ∙ same-records ch (length table) ring board fits)
+    fits : recordTray ≤ size
+    fits = omega (arith, length-replicate recordTray nobody)

@@ -7,3 +7,4 @@ pub mod Tables
 pub mod TableLaws
 pub mod Outcomes
 pub mod LentLaws
+pub mod ToldLaws

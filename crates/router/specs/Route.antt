@@ -73,6 +73,7 @@ filledUnder7 (some r) pairs ring = cond (eqb (numberOf r) 7) (overlay pairs ring
 unfoldable pub ringAfter : List Tray → Channel → List ℕ → List ℕ
 ringAfter trays ch ring = filledUnder7 (routeRefusal trays ch) (ringNumbers (ringShown ch (fill ch))) ring
 
+-- the pieces, then the tracks
 unfoldable pub routeTold : RouteAnswer → Told
-routeTold (Routed t n) = toldValues (t ∷ n ∷ [])
+routeTold (Routed t n) = toldValues (n ∷ t ∷ [])
 routeTold (Refused r) = toldRefusal r

@@ -1,97 +1,103 @@
--- The table grows by the record of each number that has a first column; with a channel's own arrays these numbers are its nets, and the table is that of the definitions.
+-- The table grows by the record of each number that has a first column; with a channel's own arrays these numbers are
+-- its nets, and the table is that of the definitions.
 use Prim.Native.Nat.{ℕ, _+_, _≤_, _<_}
 use native.Mathlib.Omega.{arith}
 use mathlib.Core.Path.{_≡_, refl, sym, _∙_, ap, subst}
 use mathlib.Core.List.{List, [], _∷_, _++_, map, map-append, List·Memᴰ}
 use mathlib.Core.Logic.{⊎-elim}
-use mathlib.Core.Bool.{Bool, not}
-use lib.ListN.{length, take, getD, set, length-map, length-append, length-set}
-use lib.Seq.{take-suc-set}
-use native.Mathlib.Numerals.{add-one}
+use lib.ListN.{length, set, length-map, length-append, length-replicate}
+use lib.Seq.{take-all}
 use lib.Dec.{T, eqb, eqb→eq}
 use borrow.Author.Tests.{eq-eqb, ne-eqb}
-use Rattle.lists.specs.Lists.{keep, from, upTo}
+use Rattle.lists.specs.Lists.{keep, from, upTo, overlay}
 use Rattle.lists.specs.Tests.{not-passes, not-fails, equal?}
 use Rattle.lists.specs.Members.{upTo-member}
-use Rattle.lists.specs.Places.{length-from}
-use Rattle.lists.specs.Pigeonhole.{length-keep}
+use Rattle.lists.specs.Eaches.{few-kept}
+use Rattle.lists.specs.Overlays.{stored-next}
 use Rattle.lists.specs.Tallies.{keep-same}
-use Rattle.lists.specs.Arrays.{getD-numbered}
 use Rattle.lists.specs.Updates.{map-same, keep-next-passes, keep-next-fails}
 use Rattle.refusal.specs.Trays.{recordTray}
-use Rattle.grid.specs.Pieces.{column, track, net}
-use Rattle.channel.specs.Channel.{Channel, highestNet, nets, firstColumn, lastColumn}
+use Rattle.grid.specs.declared.Track.{Track}
+use Rattle.grid.specs.Pieces.{track}
+use Rattle.channel.specs.declared.spans.Spans.{Spans}
+use Rattle.channel.specs.Channel.{Channel, highestNet, holdsNet, nets}
 use Rattle.channel.specs.Answers.{Escapes}
-use Rattle.channel.specs.Spans.{each512, firsts, lasts}
+use Rattle.channel.specs.Spans.{each512, SpansFound}
 use Rattle.channel.specs.SpanLaws.{nets→}
 use Rattle.leftedge.specs.declared.NetRecord.{NetRecord}
 use Rattle.leftedge.specs.Items.{Place, trackOf}
 use Rattle.leftedge.specs.Nets.{recordOf, records}
-use Rattle.drawing.specs.CodeLaws.{counted, array-counted, array-uncounted}
-use Rattle.router.specs.Tables.{recordAt, recordsTo, recordsBy, Listed}
+use Rattle.drawing.specs.Code.{columnIn}
+use Rattle.drawing.specs.CodeLaws.{track-is, first-is, last-is, spans→net, spans→none}
+use Rattle.router.specs.Tables.{recordAt, hasFirst, recordsTo, recordsBy, nobody, noRecords, Listed}
 
-abbrev hasFirst : List ℕ → ℕ → Bool
-hasFirst first n = not (eqb (getD first n 0) 0)
-
-module _ (first last tracks : List ℕ) where
-  pub none-made : recordsTo first last tracks 0 ≡ []
+module _ (s : Spans) (tracks : List Track) where
+  pub none-made : recordsTo s tracks 0 ≡ []
   unfolding recordsTo keep from
   none-made = refl
 
   module _ (k : ℕ) where
-    pub few-made : length (recordsTo first last tracks k) ≤ k
+    pub few-made : length (recordsTo s tracks k) ≤ k
     unfolding recordsTo
-    few-made =
-        let kept = keep (hasFirst first) (upTo k) in
-        let e = length-map kept (recordAt first last tracks) in
-        let few = length-keep (hasFirst first) (upTo k) in
-        let all = length-from 1 k in
-        omega arith
+    few-made = omega (arith, length-map (keep (hasFirst s) (upTo k)) (recordAt s tracks), few-kept (hasFirst s) k)
 
     -- one number further
-    pub one-made : (getD first (k + 1) 0 ≡ 0 → ⊥) → recordsTo first last tracks (k + 1) ≡ recordsTo first last tracks k ++ (recordAt first last tracks (k + 1) ∷ [])
+    pub one-made : (columnIn (s .first) (k + 1) ≡ 0 → ⊥)
+        → recordsTo s tracks (k + 1) ≡ recordsTo s tracks k ++ (recordAt s tracks (k + 1) ∷ [])
     unfolding recordsTo
     one-made h =
-        let kept = keep (hasFirst first) (upTo k) in
-        ap (map (recordAt first last tracks)) (keep-next-passes (hasFirst first) k (not-passes (eqb (getD first (k + 1) 0) 0) (λ t. h (eqb→eq (getD first (k + 1) 0) 0 t))))
-        ∙ map-append (recordAt first last tracks) kept ((k + 1) ∷ [])
+        let c = columnIn (s .first) (k + 1) in
+        let passes = not-passes (eqb c 0) (λ t. h (eqb→eq c 0 t)) in
+        ap (map (recordAt s tracks)) (keep-next-passes (hasFirst s) k passes)
+        ∙ map-append (recordAt s tracks) (keep (hasFirst s) (upTo k)) ((k + 1) ∷ [])
 
-    pub no-more-made : getD first (k + 1) 0 ≡ 0 → recordsTo first last tracks (k + 1) ≡ recordsTo first last tracks k
+    pub no-more-made : columnIn (s .first) (k + 1) ≡ 0 → recordsTo s tracks (k + 1) ≡ recordsTo s tracks k
     unfolding recordsTo
     no-more-made h =
-        ap (map (recordAt first last tracks)) (keep-next-fails (hasFirst first) k (λ t. not-fails (eqb (getD first (k + 1) 0) 0) t (subst (λ (x : ℕ). T (eqb x 0)) (sym h) tt)))
+        let zero = subst (λ (x : ℕ). T (eqb x 0)) (sym h) tt in
+        ap (map (recordAt s tracks))
+        (keep-next-fails (hasFirst s) k (λ t. not-fails (eqb (columnIn (s .first) (k + 1)) 0) t zero))
 
 -- a table with no record, and one stored just behind the front
-pub listed-none : {table : List NetRecord} → length table ≡ recordTray → Listed [] table 0
-listed-none long = record { sized = long; counted = refl; front = refl }
+pub listed-none : {table : List NetRecord} → table ≡ noRecords → Listed [] table 0
+listed-none e = record { counted = refl; laid = e }
 
-pub listed-next : {made table : List NetRecord} {count : ℕ} (r : NetRecord) → Listed made table count → count < recordTray → Listed (made ++ (r ∷ [])) (set table count r) (count + 1)
+pub listed-next : {made table : List NetRecord} {count : ℕ} (r : NetRecord) → Listed made table count
+    → count < recordTray → Listed (made ++ (r ∷ [])) (set table count r) (count + 1)
+unfolding noRecords
 listed-next {made} {table} {count} r l h =
     let c = l .counted in
-    let long = l .sized in
-    let same = length-set table count r in
     let more = length-append made (r ∷ []) in
-    record { sized = omega arith; counted = omega arith; front = rw add-one (take-suc-set table count r (omega arith)) ∙ ap (λ (m : List NetRecord). m ++ (r ∷ [])) (l .front) }
+    let before = l .laid ∙ ap over (sym (take-all recordTray made (omega arith))) in
+    let put = stored-next noRecords made r recordTray (length-replicate recordTray nobody) before in
+    record {
+      counted = omega arith;
+      laid = rw (l .counted) put ∙ ap over (take-all recordTray (made ++ (r ∷ [])) (omega arith));
+    }
+  where
+    over : List NetRecord → List NetRecord
+    over front = overlay front noRecords
 
-module _ (ch : Channel) (esc : Escapes ch) (first last : List ℕ) (e : first ≡ firsts ch) (d : last ≡ lasts ch) where
+module _ (ch : Channel) (esc : Escapes ch) (s : Spans) (found : SpansFound ch s) where
   -- the numbers with a first column are the nets
-  firsts-nets : keep (hasFirst first) (upTo highestNet) ≡ nets ch
+  firsts-nets : keep (hasFirst s) (upTo highestNet) ≡ nets ch
   unfolding nets
-  firsts-nets = keep-same (hasFirst first) (counted ch) (upTo highestNet) tests
+  firsts-nets = keep-same (hasFirst s) (holdsNet ch) (upTo highestNet) tests
     where
-      tests : (n : ℕ) → List·Memᴰ n (upTo highestNet) → hasFirst first n ≡ counted ch n
+      tests : (n : ℕ) → List·Memᴰ n (upTo highestNet) → hasFirst s n ≡ holdsNet ch n
       tests n m =
           let r = upTo-member highestNet m in
-          ⊎-elim (λ z. rw (eq-eqb (getD first n 0) 0 z) (sym (array-uncounted ch esc first last e d n (omega arith) z))) (λ z. rw (ne-eqb (getD first n 0) 0 z) (sym (array-counted ch esc first last e d n (omega arith) (r .0) z))) (equal? (getD first n 0) 0)
+          let c = columnIn (s .first) n in
+          ⊎-elim (λ z. rw (eq-eqb c 0 z) (sym (spans→none ch esc s found n (r .1) z)))
+          (λ z. rw (ne-eqb c 0 z) (sym (spans→net ch esc s found n (r .1) (r .0) z))) (equal? c 0)
 
-  pub made-records : (ps : List Place) (tracks : List ℕ) → tracks ≡ each512 (trackOf ps) → recordsBy first last tracks ≡ records ch ps
+  pub made-records : (ps : List Place) (tracks : List Track) → tracks ≡ map track (each512 (trackOf ps))
+      → recordsBy s tracks ≡ records ch ps
   unfolding recordsTo records recordAt recordOf
-  made-records ps tracks t = ap (map (recordAt first last tracks)) firsts-nets ∙ map-same (recordAt first last tracks) (recordOf ch ps) (nets ch) same
+  made-records ps tracks e =
+      ap (map (recordAt s tracks)) firsts-nets ∙ map-same (recordAt s tracks) (recordOf ch ps) (nets ch) same
     where
-      same : (n : ℕ) → List·Memᴰ n (nets ch) → recordAt first last tracks n ≡ recordOf ch ps n
+      same : (n : ℕ) → List·Memᴰ n (nets ch) → recordAt s tracks n ≡ recordOf ch ps n
       same n m =
           let low = nets→ ch n m .low in
-          let a : getD first n 0 ≡ firstColumn ch n = ap (λ (l : List ℕ). getD l n 0) e ∙ getD-numbered (firstColumn ch) 512 n (omega arith) in
-          let b : getD last n 0 ≡ lastColumn ch n = ap (λ (l : List ℕ). getD l n 0) d ∙ getD-numbered (lastColumn ch) 512 n (omega arith) in
-          let c : getD tracks n 0 ≡ trackOf ps n = ap (λ (l : List ℕ). getD l n 0) t ∙ getD-numbered (trackOf ps) 512 n (omega arith) in
-          λ i. record { number = net n; first = column (a i); last = column (b i); track = track (c i) }
+          rw (first-is ch esc s found n low, last-is ch esc s found n low, track-is tracks ps e n low)

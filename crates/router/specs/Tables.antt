@@ -1,29 +1,49 @@
--- The table of net records as the code makes it: from arrays by net number, a record for each number with a first column.
+-- The table of net records as the code makes it: from arrays by net number, a record for each number with a first
+-- column.
 use Prim.Native.Nat.{ℕ}
 use mathlib.Core.Path.{_≡_}
 use mathlib.Core.List.{List, map}
-use mathlib.Core.Bool.{not}
-use lib.ListN.{length, take, getD}
+use mathlib.Core.Bool.{Bool, not}
+use lib.ListN.{length, getD, replicate}
 use lib.Dec.{eqb}
-use Rattle.lists.specs.Lists.{keep, upTo}
+use Rattle.lists.specs.Lists.{keep, upTo, overlay}
 use Rattle.refusal.specs.Trays.{recordTray}
+use Rattle.grid.specs.declared.Track.{Track}
 use Rattle.grid.specs.Pieces.{column, track, net}
+use Rattle.channel.specs.declared.spans.Spans.{Spans}
 use Rattle.channel.specs.Channel.{highestNet}
 use Rattle.leftedge.specs.declared.NetRecord.{NetRecord}
+use Rattle.drawing.specs.Code.{columnIn}
 
 -- what the arrays have of number n
-unfoldable pub recordAt : List ℕ → List ℕ → List ℕ → ℕ → NetRecord
-recordAt first last tracks n = record { number = net n; first = column (getD first n 0); last = column (getD last n 0); track = track (getD tracks n 0) }
+unfoldable pub recordAt : Spans → List Track → ℕ → NetRecord
+recordAt s tracks n =
+    record {
+      number = net n;
+      first = getD (s .first) n (column 0);
+      last = getD (s .last) n (column 0);
+      track = getD tracks n (track 0);
+    }
+
+-- number n has a first column
+abbrev pub hasFirst : Spans → ℕ → Bool
+hasFirst s n = not (eqb (columnIn (s .first) n) 0)
 
 -- the records of the numbers from 1 to k that have a first column
-unfoldable pub recordsTo : List ℕ → List ℕ → List ℕ → ℕ → List NetRecord
-recordsTo first last tracks k = map (recordAt first last tracks) (keep (λ n. not (eqb (getD first n 0) 0)) (upTo k))
+unfoldable pub recordsTo : Spans → List Track → ℕ → List NetRecord
+recordsTo s tracks k = map (recordAt s tracks) (keep (hasFirst s) (upTo k))
 
-abbrev pub recordsBy : List ℕ → List ℕ → List ℕ → List NetRecord
-recordsBy first last tracks = recordsTo first last tracks highestNet
+abbrev pub recordsBy : Spans → List Track → List NetRecord
+recordsBy s tracks = recordsTo s tracks highestNet
 
--- a table whose front holds just the records made
+-- a record of nobody, and the table of them that the router fills
+abbrev pub nobody : NetRecord
+nobody = record { number = net 0; first = column 0; last = column 0; track = track 0 }
+
+unfoldable pub noRecords : List NetRecord
+noRecords = replicate recordTray nobody
+
+-- a table whose front holds the records made, and the remainder nobody's
 pub record Listed (made table : List NetRecord) (count : ℕ) : Type 0 where
-  pub sized : length table ≡ recordTray
   pub counted : count ≡ length made
-  pub front : take count table ≡ made
+  pub laid : table ≡ overlay made noRecords

@@ -1,35 +1,84 @@
--- What the entries for C answer, and what the lent buffers then hold: the same equations as those of the functions that they call.
-use Prim.Native.Nat.{ℕ, _≤_}
+-- What the entries for C answer, and what the lent buffers then hold: the same equations as those of the functions that
+-- they call, and what C reads in the number r itself.
+use Prim.Native.Nat.{ℕ, _+_, _*_, _/_, _%_, _≤_, _<_}
 use mathlib.Core.Path.{_≡_}
 use mathlib.Core.List.{List}
 use mathlib.Core.Logic.{_↔_}
-use lib.ListN.{length}
-use Rattle.refusal.specs.Trays.{ringTray, boardTray}
-use Rattle.channel.specs.Channel.{Channel}
-use Rattle.channel.specs.Answers.{Escapes}
-use Rattle.pinlist.specs.Answers.{readAnswer, topAfter, botAfter}
-use Rattle.judge.specs.Answers.{judgeAnswer, judgeTold}
-use Rattle.judge.specs.Promise.{Passable}
-use Rattle.router.specs.Route.{routeTrays, routeAnswer, boardAfter, ringAfter}
-use Rattle.router.specs.Contract.{RoutePromise}
-use Rattle.screen_api.specs.Numbers.{readNumber, routeNumber, judgeNumber}
+use mathlib.Core.Option.{none}
+use lib.ListN.{length, take}
+use Rattle.lists.specs.Lists.{Lowest}
+use Rattle.refusal.specs.Trays.{Tray, ringTray, boardTray}
+use Rattle.grid.specs.Pieces.{Layout}
+use Rattle.channel.specs.Channel.{Channel, nets}
+use Rattle.channel.specs.Density.{density}
+use Rattle.channel.specs.Constraints.{chain, Tangled, Unconstrained}
+use Rattle.channel.specs.Answers.{Escapes, boundsAnswer, boundsTold}
+use Rattle.pinlist.specs.Answers.{readAnswer, readTold, topAfter, botAfter}
+use Rattle.boardfile.specs.Open.{fileLayout}
+use Rattle.judge.specs.Answers.{judgeRefusal, judgeAnswer, judgeTold}
+use Rattle.judge.specs.Promise.{ShortPin, OpenPin, FloatingPiece, Passable}
+use Rattle.blanks.specs.Stock.{blankAnswer, blankTold}
+use Rattle.promises.specs.Router.{NoLayout, Fewest}
+use Rattle.router.specs.Route.{routeTrays, routeAnswer, routeTold, boardAfter, ringAfter}
+use Rattle.router.specs.Contract.{ShowsRing, HoldsLayout}
+use Rattle.screen_api.specs.Numbers.{entryNumber, refusalIn, placeIn, tracksIn, piecesIn, Decoded}
 
 -- Rules out: a width answered for a refusal (answer); rows changed under a refusal (topHeld, botHeld)
 pub record ReadEntry (text top bot : List ℕ) (r : ℕ) (top′ bot′ : List ℕ) : Type 0 where
-  pub answer : r ≡ readNumber (readAnswer text (length top) (length bot))
+  pub answer : r ≡ entryNumber (readTold (readAnswer text (length top) (length bot)))
+  pub decoded : Decoded (readTold (readAnswer text (length top) (length bot))) r
   pub topHeld : top′ ≡ topAfter text top bot
   pub botHeld : bot′ ≡ botAfter text top bot
 
--- Rules out: tracks and pieces exchanged (answer); a board written under a refusal (boardHeld)
-pub record RouteEntry (ch : Channel) (ring board : List ℕ) (r : ℕ) (ring′ board′ : List ℕ) : Type 0 where
-  pub answer : r ≡ routeNumber (routeAnswer (routeTrays (length ring) (length board)) ch)
-  pub ringHeld : ring′ ≡ ringAfter (routeTrays (length ring) (length board)) ch ring
-  pub boardHeld : board′ ≡ boardAfter (routeTrays (length ring) (length board)) ch board
-  -- demand 3, of what the caller then holds
-  pub promise : ringTray ≤ length ring → boardTray ≤ length board → Escapes ch → RoutePromise ch (routeAnswer (routeTrays (length ring) (length board)) ch) ring′ board′
+-- Rules out: density and chain exchanged (densityRead, chainRead); bounds of rows that are refused (accepted)
+pub record BoundsEntry (ch : Channel) (r : ℕ) : Type 0 where
+  pub answer : r ≡ entryNumber (boundsTold (boundsAnswer ch))
+  pub decoded : Decoded (boundsTold (boundsAnswer ch)) r
+  pub accepted : (refusalIn r ≡ 0) ↔ Escapes ch
+  pub densityRead : refusalIn r ≡ 0 → placeIn r / 65536 ≡ density ch
+  pub chainRead : refusalIn r ≡ 0 → placeIn r % 65536 ≡ chain ch
 
--- Rules out: a judge that always says good (passes); scratch made shorter (kept)
+-- Demand 3, of the number r and of the ring and board that the caller then holds
+pub record RouteNumberPromise (ch : Channel) (r : ℕ) (ring board : List ℕ) : Type 0 where
+  pub tangled-exactly : (refusalIn r ≡ 7) ↔ NoLayout ch
+  pub ring-exactly : (refusalIn r ≡ 7) ↔ Tangled ch
+  pub ring-shown : refusalIn r ≡ 7 → ShowsRing ch (placeIn r) ring
+  pub every-other : (refusalIn r ≡ 7 → ⊥) → refusalIn r ≡ 0
+  pub laid-out : refusalIn r ≡ 0 → HoldsLayout ch (tracksIn r) (piecesIn r) (take (4 + 4 * piecesIn r) board)
+  pub fewest : Unconstrained ch → refusalIn r ≡ 0 → (tracksIn r ≡ density ch) × Fewest ch (tracksIn r)
+  pub floors : refusalIn r ≡ 0 → (density ch ≤ tracksIn r) × (chain ch ≤ tracksIn r) × (tracksIn r ≤ length (nets ch))
+
+module _ (ch : Channel) (ring board : List ℕ) where
+  abbrev trays : List Tray
+  trays = routeTrays (length ring) (length board)
+
+  -- Rules out: tracks and pieces exchanged (promise); a board written under a refusal (boardHeld)
+  pub record RouteEntry (r : ℕ) (ring′ board′ : List ℕ) : Type 0 where
+    pub answer : r ≡ entryNumber (routeTold (routeAnswer trays ch))
+    pub decoded : Decoded (routeTold (routeAnswer trays ch)) r
+    pub ringHeld : ring′ ≡ ringAfter trays ch ring
+    pub boardHeld : board′ ≡ boardAfter trays ch board
+    pub promise : ringTray ≤ length ring → boardTray ≤ length board → Escapes ch → RouteNumberPromise ch r ring′ board′
+
+-- Demand 2, of the number r answered for a board that is not refused: 11 before 12 before 13, each at its lowest place
+pub record FaultNumbers (ch : Channel) (l : Layout) (r : ℕ) : Type 0 where
+  pub short : (p : ℕ) → ((refusalIn r ≡ 11) × (placeIn r ≡ p)) ↔ Lowest (ShortPin ch l) p
+  pub opened : (p : ℕ) → ((refusalIn r ≡ 12) × (placeIn r ≡ p))
+      ↔ (((q : ℕ) → ShortPin ch l q → ⊥) × Lowest (OpenPin ch l) p)
+  pub floating : (i : ℕ) → ((refusalIn r ≡ 13) × (placeIn r ≡ i))
+      ↔ (((q : ℕ) → ShortPin ch l q → ⊥) × ((q : ℕ) → OpenPin ch l q → ⊥) × Lowest (FloatingPiece ch l) i)
+
+-- Rules out: a judge that always says good (passes); a later short, or its place for its number (places); scratch made
+-- shorter (kept)
 pub record JudgeEntry (ch : Channel) (board scratch : List ℕ) (r : ℕ) (scratch′ : List ℕ) : Type 0 where
-  pub answer : r ≡ judgeNumber (judgeAnswer ch board (length scratch))
-  pub passes : (judgeTold (judgeAnswer ch board (length scratch)) .number ≡ 0) ↔ Passable ch board (length scratch)
+  pub answer : r ≡ entryNumber (judgeTold (judgeAnswer ch board (length scratch)))
+  pub decoded : Decoded (judgeTold (judgeAnswer ch board (length scratch))) r
+  pub passes : (refusalIn r ≡ 0) ↔ Passable ch board (length scratch)
+  pub places : judgeRefusal ch board (length scratch) ≡ none → FaultNumbers ch (fileLayout board) r
   pub kept : length scratch′ ≡ length scratch
+
+-- Rules out: a blank for more tracks than any holds, or none for fewer (refused)
+pub record BlankEntry (tracks r : ℕ) : Type 0 where
+  pub answer : r ≡ entryNumber (blankTold (blankAnswer tracks))
+  pub decoded : Decoded (blankTold (blankAnswer tracks)) r
+  pub refused : (refusalIn r ≡ 14) ↔ (512 < tracks)

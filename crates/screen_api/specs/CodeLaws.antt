@@ -1,30 +1,263 @@
--- An entry keeps its function's contract where the number that it answers is that of the function's answer.
-use Prim.Native.Nat.{ℕ}
-use mathlib.Core.Path.{_≡_, ap, subst, _∙_}
-use mathlib.Core.Logic.{_↔_}
-use mathlib.Core.List.{List}
+-- An entry keeps its function's contract where the number that it answers is that of the function's answer; and what
+-- the function promises of its answer, the entry promises of the number.
+use Prim.Native.Nat.{ℕ, _+_, _*_, _≤_}
+use native.Mathlib.Omega.{arith}
+use mathlib.Core.Path.{_≡_, refl, sym, _∙_, ap, ap₂, subst}
+use mathlib.Core.List.{List, [], _∷_}
+use mathlib.Core.Logic.{_↔_, Iff·trans}
+use mathlib.Core.Bool.{cond}
+use mathlib.Core.Option.{Option, none, some}
 use lib.ListN.{length}
+use lib.Dec.{eqb}
+use Rattle.refusal.specs.TrayLaws.{refusal-numbered}
+use Rattle.refusal.specs.ToldLaws.{told-success}
+use Rattle.refusal.specs.Trays.{ringTray, boardTray}
+use Rattle.channel.specs.declared.BoundsAnswer.the-variants as bounds
 use Rattle.channel.specs.Channel.{Channel}
+use Rattle.channel.specs.Density.{density}
+use Rattle.channel.specs.Constraints.{chain}
+use Rattle.channel.specs.Answers.{Escapes, rowsRefusal, boundsAnswer, boundsTold}
+use Rattle.channel.specs.EscapeLaws.{accepted-exactly}
+use Rattle.channel.specs.ToldLaws.{bounds-told, density-small, chain-small, ring-small}
 use Rattle.pinlist.specs.declared.ReadAnswer.{ReadAnswer}
+use Rattle.pinlist.specs.declared.ReadAnswer.the-variants as reading
+use Rattle.pinlist.specs.Answers.{readTold}
 use Rattle.pinlist.specs.Code.{ReadDone}
-use Rattle.router.specs.declared.Routing.{Routing}
-use Rattle.router.specs.Contract.{RoutePromise}
-use Rattle.router.specs.Code.{RowsDone}
+use Rattle.pinlist.specs.ToldLaws.{width-small}
+use Rattle.leftedge.specs.Walk.{ringOf}
+use Rattle.leftedge.specs.Nets.{netItems}
+use Rattle.boardfile.specs.Open.{fileTracks, fileLayout}
+use Rattle.judge.specs.declared.Fault.{Fault}
+use Rattle.judge.specs.declared.Fault.the-variants.{Short, Open, Floating}
 use Rattle.judge.specs.declared.JudgeAnswer.{JudgeAnswer}
-use Rattle.judge.specs.Answers.{judgeTold}
-use Rattle.judge.specs.Promise.{Passable}
+use Rattle.judge.specs.declared.JudgeAnswer.the-variants as judging
+use Rattle.judge.specs.Finding.{finding}
+use Rattle.judge.specs.Answers.{judgeRefusal, judgeAnswer, faultNumber, faultPlace, judgeTold}
 use Rattle.judge.specs.Code.{Judged}
-use Rattle.screen_api.specs.Numbers.{readNumber, routeNumber, judgeNumber}
-use Rattle.screen_api.specs.Code.{ReadEntry, RouteEntry, JudgeEntry}
+use Rattle.judge.specs.OnBytes.{found-on-bytes}
+use Rattle.judge.specs.OnBytes.{fault-between}
+use Rattle.judge.specs.ToldLaws.{foundTold, unrefused-told, good-small, fault-small}
+use Rattle.blanks.specs.declared.BlankAnswer.the-variants as blanks
+use Rattle.blanks.specs.Stock.{blankAnswer, blankTold}
+use Rattle.blanks.specs.ToldLaws.{fourteen-exactly, blank-small}
+use Rattle.promises.specs.Proved.{demand3}
+use Rattle.router.specs.declared.Routing.{Routing}
+use Rattle.router.specs.declared.RouteAnswer.{RouteAnswer}
+use Rattle.router.specs.declared.RouteAnswer.the-variants as routing
+use Rattle.router.specs.Route.{routeTrays, routeTold}
+use Rattle.router.specs.Contract.{ShowsRing, RoutePromise}
+use Rattle.router.specs.ContractLaws.{stuck-answer}
+use Rattle.router.specs.CodeLaws.{room}
+use Rattle.router.specs.Code.{RowsDone}
+use Rattle.router.specs.ToldLaws.{routed-small}
+use Rattle.screen_api.specs.Numbers.{entryNumber, refusalIn, placeIn, tracksIn, piecesIn}
+use Rattle.screen_api.specs.NumberLaws.{
+  value-number,
+  pair-number,
+  decoded,
+  number-exactly,
+  place-back,
+  Halves,
+  pair-back,
+  zero-exactly,
+  zero→values,
+}
+use Rattle.screen_api.specs.Code.{
+  ReadEntry,
+  BoundsEntry,
+  RouteNumberPromise,
+  RouteEntry,
+  FaultNumbers,
+  JudgeEntry,
+  BlankEntry,
+}
 
-pub read-entry : {text top bot : List ℕ} {r : ReadAnswer} {top′ bot′ : List ℕ} {n : ℕ} → ReadDone text top bot r top′ bot′ → n ≡ readNumber r → ReadEntry text top bot n top′ bot′
-read-entry done e = record { answer = e ∙ ap readNumber (done .answer); topHeld = done .topHeld; botHeld = done .botHeld }
+-- reading
+module _ {text top bot top′ bot′ : List ℕ} {a : ReadAnswer} (done : ReadDone text top bot a top′ bot′) where
+  pub read-entry : {r : ℕ} → r ≡ entryNumber (readTold a) → ReadEntry text top bot r top′ bot′
+  read-entry e =
+      let answer = e ∙ ap (λ x. entryNumber (readTold x)) (done .answer) in
+      record { answer = answer; decoded = decoded answer; topHeld = done .topHeld; botHeld = done .botHeld }
 
--- the promise is about what `route` answered, which is the answer due
-pub route-entry : {ch : Channel} {ring board : List ℕ} {r : Routing} {ring′ board′ : List ℕ} {n : ℕ} → RowsDone ch ring board r ring′ board′ → n ≡ routeNumber (r .answer) → RouteEntry ch ring board n ring′ board′
-route-entry {ch} {ring} {board} {r} {ring′} {board′} done e =
-    record { answer = e ∙ ap routeNumber (done .answer); ringHeld = done .ringHeld; boardHeld = done .boardHeld; promise = λ a b c. subst (λ x. RoutePromise ch x ring′ board′) (done .answer) (done .promise a b c) }
+  pub read-width : {w : ℕ} → a ≡ reading.Width w → ReadEntry text top bot w top′ bot′
+  unfolding readTold
+  read-width {w} e =
+      let small = width-small text (length top) (length bot) (sym (done .answer) ∙ e) in
+      read-entry (rw e (value-number small))
 
-pub judge-entry : {ch : Channel} {board scratch : List ℕ} {r : JudgeAnswer} {scratch′ : List ℕ} {n : ℕ} → Judged ch board scratch r scratch′ → n ≡ judgeNumber r → JudgeEntry ch board scratch n scratch′
-judge-entry {ch} {board} {scratch} done e =
-    record { answer = e ∙ ap judgeNumber (done .answer); passes = subst (λ x. (judgeTold x .number ≡ 0) ↔ Passable ch board (length scratch)) (done .answer) (done .passes); kept = done .kept }
+-- bounds
+module _ (ch : Channel) where
+  pub bounds-entry : {r : ℕ} → r ≡ entryNumber (boundsTold (boundsAnswer ch)) → BoundsEntry ch r
+  bounds-entry {r} e =
+      let by = e ∙ ap entryNumber (bounds-told ch) in
+      record {
+        answer = e;
+        decoded = decoded e;
+        accepted = Iff·trans (zero-exactly (rowsRefusal ch) _ by) (accepted-exactly ch);
+        densityRead = λ h. halves h .upper;
+        chainRead = λ h. halves h .lower;
+      }
+    where
+      halves : refusalIn r ≡ 0 → Halves (density ch) (chain ch) r
+      halves h =
+          let few = density-small ch in
+          let short = chain-small ch in
+          pair-back (omega arith) (omega arith) (zero→values (rowsRefusal ch) _ (e ∙ ap entryNumber (bounds-told ch)) h)
+
+  pub bounds-given : {d k : ℕ} → boundsAnswer ch ≡ bounds.Bounds d k → BoundsEntry ch (d * 65536 + k)
+  unfolding boundsTold
+  bounds-given {d} {k} q =
+      let same = told-success (rowsRefusal ch) _ (d ∷ k ∷ []) (sym (bounds-told ch) ∙ ap boundsTold q) .1 in
+      let upper : density ch ≡ d = cc in
+      let lower : chain ch ≡ k = cc in
+      let few = density-small ch in
+      let short = chain-small ch in
+      bounds-entry (rw q (pair-number (omega arith) (omega arith)))
+
+-- routing
+module _ {a : RouteAnswer} {r : ℕ} (e : r ≡ entryNumber (routeTold a)) where
+  -- a number with 0 in its upper half is that of a routed channel, whose tracks and pieces it has
+  routed-back : ((t n : ℕ) → a ≡ routing.Routed t n → (t ≤ 511) × (n ≤ 2559)) → refusalIn r ≡ 0
+      → a ≡ routing.Routed (tracksIn r) (piecesIn r)
+  unfolding routeTold
+  routed-back small h = go a refl
+    where
+      go : (b : RouteAnswer) → a ≡ b → a ≡ routing.Routed (tracksIn r) (piecesIn r)
+      go (routing.Routed t n) q =
+          let few = small t n q in
+          let back = pair-back (omega arith) (omega arith) (e ∙ ap (λ x. entryNumber (routeTold x)) q) in
+          q ∙ ap₂ routing.Routed (sym (back .tracks)) (sym (back .pieces))
+      go (routing.Refused o) q =
+          let n = decoded (e ∙ ap (λ x. entryNumber (routeTold x)) q) .number in
+          absurd (omega (arith, refusal-numbered o))
+
+module _ {ch : Channel} {ring board ring′ board′ : List ℕ} {a : Routing}
+    (done : RowsDone ch ring board a ring′ board′) where
+  module _ {r : ℕ} (e : r ≡ entryNumber (routeTold (a .answer))) where
+    module _ (hr : ringTray ≤ length ring) (hb : boardTray ≤ length board) (esc : Escapes ch) where
+      said : RoutePromise ch (a .answer) ring′ board′
+      said = done .promise hr hb esc
+
+      back : refusalIn r ≡ 0 → a .answer ≡ routing.Routed (tracksIn r) (piecesIn r)
+      back = routed-back e (λ t n q. routed-small (routeTrays (length ring) (length board)) ch (sym (done .answer) ∙ q))
+
+      -- under 7 the place is the number of pairs, at most 511
+      shown : refusalIn r ≡ 7 → ShowsRing ch (placeIn r) ring′
+      unfolding routeTold
+      shown h =
+          let seven : routeTold (a .answer) .number ≡ 7 = sym (decoded e .number) ∙ h in
+          let left = demand3 ch esc .refused-exactly .1 (said .tangled-exactly .0 seven) in
+          let k = length (ringOf (netItems ch) (left .0)) in
+          let fits = room (length ring) (length board) hr hb in
+          let tangled = done .answer ∙ stuck-answer _ ch fits esc (left .0) (left .1) in
+          let ring-of-k = said .ring-shown k tangled in
+          let few = ring-small ch esc (ring-of-k .isRing) in
+          let counted = ring-of-k .counted in
+          let same = place-back 7 (e ∙ ap (λ x. entryNumber (routeTold x)) tangled) (omega arith) in
+          subst (λ (m : ℕ). ShowsRing ch m ring′) (sym same) ring-of-k
+
+      number-promise : RouteNumberPromise ch r ring′ board′
+      unfolding routeTold
+      number-promise =
+          record {
+            tangled-exactly = number-exactly (decoded e) (said .tangled-exactly);
+            ring-exactly = number-exactly (decoded e) (said .ring-exactly);
+            ring-shown = shown;
+            every-other = λ h.
+                let other = said .every-other (λ seven. h (decoded e .number ∙ seven)) in
+                decoded e .number ∙ ap (λ x. routeTold x .number) (other .2);
+            laid-out = λ h. said .laid-out (tracksIn r) (piecesIn r) (back h);
+            fewest = λ free h. said .fewest free (tracksIn r) (piecesIn r) (back h);
+            floors = λ h. said .floors (tracksIn r) (piecesIn r) (back h);
+          }
+
+    pub route-entry : RouteEntry ch ring board r ring′ board′
+    route-entry =
+        let answer = e ∙ ap (λ x. entryNumber (routeTold x)) (done .answer) in
+        record {
+          answer = answer;
+          decoded = decoded answer;
+          ringHeld = done .ringHeld;
+          boardHeld = done .boardHeld;
+          promise = number-promise;
+        }
+
+  pub route-routed : {t n : ℕ} → a .answer ≡ routing.Routed t n → RouteEntry ch ring board (n * 65536 + t) ring′ board′
+  unfolding routeTold
+  route-routed q =
+      let small = routed-small (routeTrays (length ring) (length board)) ch (sym (done .answer) ∙ q) in
+      route-entry (rw q (pair-number (omega arith) (omega arith)))
+
+-- judging: a fault is known by its number and place
+faultOf : ℕ → ℕ → Fault
+faultOf n p = cond (eqb n 11) (Short p) (cond (eqb n 12) (Open p) (Floating p))
+
+fault-is : (f : Fault) → f ≡ faultOf (faultNumber f) (faultPlace f)
+unfolding faultNumber faultPlace faultOf
+fault-is (Short p) = refl
+fault-is (Open p) = refl
+fault-is (Floating p) = refl
+
+module _ (ch : Channel) (board : List ℕ) (lent : ℕ) (silent : judgeRefusal ch board lent ≡ none) {r : ℕ}
+    (e : r ≡ entryNumber (judgeTold (judgeAnswer ch board lent))) where
+  told-found : (f : Option Fault) → finding ch (fileLayout board) ≡ f → r ≡ entryNumber (foundTold (fileTracks board) f)
+  told-found f q = e ∙ ap entryNumber (unrefused-told ch board lent silent ∙ ap (foundTold (fileTracks board)) q)
+
+  -- the number and the place of a fault are read exactly where it is found
+  found-exactly : (g : Fault)
+      → ((refusalIn r ≡ faultNumber g) × (placeIn r ≡ faultPlace g)) ↔ (finding ch (fileLayout board) ≡ some g)
+  unfolding foundTold
+  found-exactly g = (λ h. go (finding ch (fileLayout board)) refl (h .0) (h .1), λ q. read g q)
+    where
+      read : (f : Fault) → finding ch (fileLayout board) ≡ some f
+          → (refusalIn r ≡ faultNumber f) × (placeIn r ≡ faultPlace f)
+      read f q =
+          let by = told-found (some f) q in
+          let small = fault-small ch board lent silent f q in
+          (decoded by .number, place-back (faultNumber f) by (omega arith))
+
+      go : (f : Option Fault) → finding ch (fileLayout board) ≡ f → refusalIn r ≡ faultNumber g
+          → placeIn r ≡ faultPlace g → finding ch (fileLayout board) ≡ some g
+      go none q n p = let z = decoded (told-found none q) .number in absurd (omega (arith, fault-between g))
+      go (some f) q n p =
+          let said = read f q in
+          let same : f ≡ g = fault-is f ∙ (ap₂ faultOf (sym (said .0) ∙ n) (sym (said .1) ∙ p) ∙ sym (fault-is g)) in
+          q ∙ ap some same
+
+  fault-numbers : FaultNumbers ch (fileLayout board) r
+  unfolding faultNumber faultPlace
+  fault-numbers =
+      let promise = found-on-bytes ch board lent silent in
+      record {
+        short = λ p. Iff·trans (found-exactly (Short p)) (promise .short p);
+        opened = λ p. Iff·trans (found-exactly (Open p)) (promise .opened p);
+        floating = λ i. Iff·trans (found-exactly (Floating i)) (promise .floating i);
+      }
+
+module _ {ch : Channel} {board scratch scratch′ : List ℕ} {a : JudgeAnswer}
+    (done : Judged ch board scratch a scratch′) where
+  pub judge-entry : {r : ℕ} → r ≡ entryNumber (judgeTold a) → JudgeEntry ch board scratch r scratch′
+  judge-entry e =
+      let answer = e ∙ ap (λ x. entryNumber (judgeTold x)) (done .answer) in
+      record {
+        answer = answer;
+        decoded = decoded answer;
+        passes = number-exactly (decoded e) (done .passes);
+        places = λ silent. fault-numbers ch board (length scratch) silent answer;
+        kept = done .kept;
+      }
+
+  pub judge-good : {t : ℕ} → a ≡ judging.Good t → JudgeEntry ch board scratch t scratch′
+  unfolding judgeTold
+  judge-good q =
+      let small = good-small ch board (length scratch) (sym (done .answer) ∙ q) in
+      judge-entry (rw q (value-number (omega arith)))
+
+-- blanks
+module _ (t : ℕ) where
+  pub blank-entry : {r : ℕ} → r ≡ entryNumber (blankTold (blankAnswer t)) → BlankEntry t r
+  blank-entry e = record { answer = e; decoded = decoded e; refused = number-exactly (decoded e) (fourteen-exactly t) }
+
+  pub blank-held : {b : ℕ} → blankAnswer t ≡ blanks.Blank b → BlankEntry t b
+  unfolding blankTold
+  blank-held q = blank-entry (rw q (value-number (blank-small t q)))

@@ -1,13 +1,13 @@
-// The entries that a C program calls. Each answers one number: 0 in the upper 32 bits and the value in the lower, or the number of a refusal or fault in
-// the upper and its place in the lower; a place over 4,294,967,295 is shown as that. screen/channel.h documents them for C.
+// The entries that a C program calls. Each answers one number: 0 in the upper 32 bits and the value in the lower, or
+// the number of a refusal or fault in the upper and its place in the lower; a place over 4,294,967,295 is shown as
+// that. screen/channel.h documents them for C.
 ghost use mathlib.Core.Path.{_≡_};
 ghost use Prim.Native.Nat.{_≤_};
+ghost use Rattle.refusal.specs.Refusals.{toldAt, toldRefusal};
 ghost use Rattle.channel.specs.Channel.{rows};
-ghost use Rattle.channel.specs.Answers.{boundsAnswer};
-ghost use Rattle.blanks.specs.Stock.{blankAnswer};
 ghost use Rattle.judge.specs.Answers.{faultNumber, faultPlace};
-ghost use Rattle.screen_api.specs.Numbers.{boundsNumber, blankNumber, numbered, refusalNumber};
-ghost use Rattle.screen_api.specs.Code.{ReadEntry, RouteEntry, JudgeEntry};
+ghost use Rattle.screen_api.specs.Numbers.{entryNumber};
+ghost use Rattle.screen_api.specs.Code.{ReadEntry, BoundsEntry, RouteEntry, JudgeEntry, BlankEntry};
 use blanks::BlankAnswer;
 use channel::BoundsAnswer;
 use judge::Fault;
@@ -19,7 +19,7 @@ use router::RouteAnswer;
 // A number of the table and its place, in one number.
 fn numbered_at(number: u32, place: usize) -> u64
     requires { ⌜ number ≤ 14 ⌝ }
-    ensures { λ r. ⌜ r ≡ numbered number place ⌝ }
+    ensures { λ r. ⌜ r ≡ entryNumber (toldAt number place) ⌝ }
 {
     let shown = if 4294967295 < place {
         4294967295
@@ -30,7 +30,7 @@ fn numbered_at(number: u32, place: usize) -> u64
 }
 
 fn refused(refusal: Refusal) -> u64
-    ensures { λ r. ⌜ r ≡ refusalNumber refusal ⌝ }
+    ensures { λ r. ⌜ r ≡ entryNumber (toldRefusal refusal) ⌝ }
 {
     numbered_at(refusal::number_of(refusal), refusal::place_of(refusal))
 }
@@ -50,8 +50,7 @@ pub extern "C" fn cabjirt_read(text: &[u8], top: &mut [u32], bot: &mut [u32]) ->
 // The bounds of rows: density times 65,536 plus chain, or refusals 3 to 6.
 #[no_mangle]
 pub extern "C" fn cabjirt_bounds(top: &[u32], bot: &[u32]) -> u64
-    ensures { λ r.
-        ⌜ r ≡ boundsNumber (boundsAnswer (rows (now (top .entry)) (now (bot .entry)))) ⌝ }
+    ensures { λ r. ⌜ BoundsEntry (rows (now (top .entry)) (now (bot .entry))) r ⌝ }
 {
     match channel::bounds(top, bot) {
         BoundsAnswer::Bounds { density, chain } => density as u64 * 65536 + chain as u64,
@@ -59,12 +58,13 @@ pub extern "C" fn cabjirt_bounds(top: &[u32], bot: &[u32]) -> u64
     }
 }
 
-// Routes rows: pieces times 65,536 plus tracks, with the board file at the front of the board; or refusals 1 and 3 to 7, under 7 with the ring's pairs
-// at the front of the ring.
+// Routes rows: pieces times 65,536 plus tracks, with the board file at the front of the board; or refusals 1 and 3 to
+// 7, under 7 with the ring's pairs at the front of the ring.
 #[no_mangle]
 pub extern "C" fn cabjirt_route(top: &[u32], bot: &[u32], ring: &mut [u32], board: &mut [u8]) -> u64
     ensures { λ r.
-        ⌜ RouteEntry (rows (now (top .entry)) (now (bot .entry))) (now (ring .entry)) (now (board .entry)) r (now (ring .exit)) (now (board .exit)) ⌝ }
+        ⌜ RouteEntry (rows (now (top .entry)) (now (bot .entry))) (now (ring .entry)) (now (board .entry)) r
+        (now (ring .exit)) (now (board .exit)) ⌝ }
 {
     let routing = router::route_rows(top, bot, ring, board);
     let answer = routing.answer;
@@ -78,7 +78,8 @@ pub extern "C" fn cabjirt_route(top: &[u32], bot: &[u32], ring: &mut [u32], boar
 #[no_mangle]
 pub extern "C" fn cabjirt_judge(top: &[u32], bot: &[u32], board: &[u8], scratch: &mut [u32]) -> u64
     ensures { λ r.
-        ⌜ JudgeEntry (rows (now (top .entry)) (now (bot .entry))) (now (board .entry)) (now (scratch .entry)) r (now (scratch .exit)) ⌝ }
+        ⌜ JudgeEntry (rows (now (top .entry)) (now (bot .entry))) (now (board .entry)) (now (scratch .entry)) r
+        (now (scratch .exit)) ⌝ }
 {
     match judge::judge(top, bot, board, scratch) {
         JudgeAnswer::Good(tracks) => tracks as u64,
@@ -88,19 +89,15 @@ pub extern "C" fn cabjirt_judge(top: &[u32], bot: &[u32], board: &[u8], scratch:
 }
 
 fn faulty(fault: Fault) -> u64
-    ensures { λ r. ⌜ r ≡ numbered (faultNumber fault) (faultPlace fault) ⌝ }
+    ensures { λ r. ⌜ r ≡ entryNumber (toldAt (faultNumber fault) (faultPlace fault)) ⌝ }
 {
-    match fault {
-        Fault::Short(place) => numbered_at(11, place),
-        Fault::Open(place) => numbered_at(12, place),
-        Fault::Floating(piece) => numbered_at(13, piece),
-    }
+    numbered_at(judge::fault_number(fault), judge::fault_place(fault))
 }
 
 // The smallest stock blank for a number of tracks, or refusal 14.
 #[no_mangle]
 pub extern "C" fn cabjirt_blank(tracks: u32) -> u64
-    ensures { λ r. ⌜ r ≡ blankNumber (blankAnswer tracks) ⌝ }
+    ensures { λ r. ⌜ BlankEntry tracks r ⌝ }
 {
     match blanks::blank(tracks) {
         BlankAnswer::Blank(held) => held as u64,

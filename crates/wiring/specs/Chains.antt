@@ -16,7 +16,8 @@ pub joined-trans : {ch : Channel} {l : Layout} {x y z : Element} → Joined ch l
 joined-trans itself q = q
 joined-trans (link t p r) q = link t p (joined-trans r q)
 
-pub joined-snoc : {ch : Channel} {l : Layout} {x y z : Element} → Joined ch l x y → Touching (l .tracks) y z → Present ch l z → Joined ch l x z
+pub joined-snoc : {ch : Channel} {l : Layout} {x y z : Element} → Joined ch l x y → Touching (l .tracks) y z
+    → Present ch l z → Joined ch l x z
 joined-snoc j t p = joined-trans j (link t p itself)
 
 pub joined-sym : {ch : Channel} {l : Layout} {x y : Element} → Present ch l x → Joined ch l x y → Joined ch l y x

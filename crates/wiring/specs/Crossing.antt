@@ -1,10 +1,11 @@
--- Crossing: a chain from the left of a column boundary to its right has a trunk over the boundary, since only a trunk covers two columns.
+-- Crossing: a chain from the left of a column boundary to its right has a trunk over the boundary, since only a trunk
+-- covers two columns.
 use Prim.Native.Nat.{ℕ, _≤_, _<_}
 use native.Mathlib.Omega.{arith}
 use native.Mathlib.Decide.{decLe}
 use mathlib.Core.Path.{_≡_}
 use mathlib.Core.List.{List·Memᴰ}
-use mathlib.Core.Logic.{_⊎_, inl, inr, ⊎-elim}
+use mathlib.Core.Logic.{_⊎_, ⊎-elim}
 use Rattle.lists.specs.Tests.{equal?}
 use Rattle.grid.specs.declared.Piece.{Piece}
 use Rattle.grid.specs.Pieces.{kindOf, trunkKind, left, right, Layout}
@@ -12,7 +13,7 @@ use Rattle.grid.specs.TouchLaws.{one-column}
 use Rattle.channel.specs.Channel.{Channel}
 use Rattle.wiring.specs.Pins.{columnOf}
 use Rattle.wiring.specs.Layouts.{Element, pin, copper, Present, Touching, Joined, itself, link}
-use Rattle.wiring.specs.Chains.{joined-snoc, joined-trans}
+use Rattle.wiring.specs.Chains.{joined-snoc}
 
 -- the first and the last column of an element
 unfoldable pub leftOf : Element → ℕ
@@ -45,14 +46,19 @@ module _ (ch : Channel) (l : Layout) where
   unfolding Present leftOf rightOf
   spans-two u (pin x) c p h k j = absurd (omega arith)
   spans-two u (copper q) c p h k j =
-      ⊎-elim (λ t. record { trunk = q; isTrunk = t; present = p; begins = h; ends = k; joined = j }) (λ nt. let e = one-column q nt in absurd (omega arith)) (equal? (kindOf q) trunkKind)
+      ⊎-elim (λ t. record { trunk = q; isTrunk = t; present = p; begins = h; ends = k; joined = j })
+      (λ nt. let e = one-column q nt in absurd (omega arith)) (equal? (kindOf q) trunkKind)
 
   along : {u v z : Element} (c : ℕ) → Joined ch l u v → Joined ch l v z → rightOf v ≤ c → c < rightOf z → TrunkOver u c
   along c j itself h k = absurd (omega arith)
   along {u} c j (link {x = v} {y = w} t p r) h k =
       let m = touching-columns (l .tracks) v w t in
       let further = joined-snoc j t p in
-      elim (decLe (rightOf w) c) [ yes less ↦ along c further r less k | no more ↦ spans-two u w c p (omega arith) (omega arith) further ]
+      elim (decLe (rightOf w) c) [
+        | yes less ↦ along c further r less k
+        | no more ↦
+            spans-two u w c p (omega arith) (omega arith) further
+      ]
 
   pub crossing : {u z : Element} (c : ℕ) → Joined ch l u z → rightOf u ≤ c → c < rightOf z → TrunkOver u c
   crossing c j h k = along c itself j h k

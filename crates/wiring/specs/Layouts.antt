@@ -1,7 +1,7 @@
 -- 01, "Wiring rule": what is joined in a layout, when it is good, and which trunks are a net's.
 use Prim.Native.Nat.{ℕ}
 use mathlib.Core.Path.{_≡_}
-use mathlib.Core.List.{List, List·Memᴰ}
+use mathlib.Core.List.{List·Memᴰ}
 use mathlib.Core.Logic.{_↔_}
 use mathlib.Core.Option.{some}
 use lib.ListN.{getElem?}
@@ -36,7 +36,8 @@ pub data Joined (ch : Channel) (l : Layout) : Element → Element → Type 0 whe
 abbrev pub AllOnGrid : Channel → Layout → Type 0
 AllOnGrid ch l = (p : Piece) → List·Memᴰ p (l .pieces) → OnGrid (width ch) (l .tracks) p
 
--- "A layout is good when two pins are joined exactly if they carry one net number and every piece is joined to some pin"
+-- "A layout is good when two pins are joined exactly if they carry one net number and every piece is joined to some
+-- pin"
 pub record Good (ch : Channel) (l : Layout) : Type 0 where
   pub onGrid : AllOnGrid ch l
   pub joins : (x y : Pin) → IsPin ch x → IsPin ch y → Joined ch l (pin x) (pin y) ↔ (netOf ch x ≡ netOf ch y)

@@ -1,26 +1,27 @@
--- The order of trunks. In a good layout, where net a is above net b in a column, the trunk by which a leaves the column is above that of b:
--- otherwise branches of both cover one point of the column and touch. With one trunk piece per net this runs down every path, and round no ring.
-use Prim.Native.Nat.{ℕ, zero, suc, _+_, _≤_, _<_}
+-- The order of trunks. In a good layout, where net a is above net b in a column, the trunk by which a leaves the column
+-- is above that of b: otherwise branches of both cover one point of the column and touch. With one trunk piece per net
+-- this runs down every path, and round no ring.
+use Prim.Native.Nat.{ℕ, _≤_, _<_}
 use native.Mathlib.Omega.{arith}
 use native.Mathlib.Decide.{decLe}
 use mathlib.Core.Path.{_≡_, refl, sym, _∙_, ap, subst}
-use mathlib.Core.List.{List, [], _∷_, List·Memᴰ, List·Memᴰ·head, List·Memᴰ·tail}
+use mathlib.Core.List.{List, [], _∷_}
 use mathlib.Core.Logic.{_⊎_, inl, inr, ⊎-elim}
-use mathlib.Core.Option.{Option, some, none}
+use mathlib.Core.Option.{some}
 use lib.ListN.{getElem?}
-use Rattle.lists.specs.Lists.{at, headOr}
+use Rattle.lists.specs.Lists.{headOr}
 use Rattle.lists.specs.Ranges.{member-place}
 use Rattle.grid.specs.declared.Piece.{Piece}
-use Rattle.grid.specs.Pieces.{kindOf, trunkKind, branchKind, low, high, Layout}
-use Rattle.grid.specs.Touching.{Covers, Touch}
+use Rattle.grid.specs.Pieces.{low, Layout}
+use Rattle.grid.specs.Touching.{Touch}
 use Rattle.grid.specs.TouchLaws.{one-row, same-kind-meets}
 use Rattle.channel.specs.Channel.{Channel, width}
-use Rattle.channel.specs.Constraints.{Above, Step, netsOf, Descends, last, next, Ring}
+use Rattle.channel.specs.Constraints.{Above, Step, Descends, last, next, Ring}
 use Rattle.channel.specs.Answers.{Escapes}
 use Rattle.channel.specs.Laws.{PinIn, net-positive}
 use Rattle.channel.specs.SpanLaws.{upper-another, lower-another}
 use Rattle.wiring.specs.Pins.{Pin, top, bot, columnOf, rowOf, netOf, IsPin}
-use Rattle.wiring.specs.Layouts.{Element, pin, copper, Present, Touching, Joined, Good, TrunkOf, OneTrunkEach}
+use Rattle.wiring.specs.Layouts.{pin, Present, Touching, Good, TrunkOf, OneTrunkEach}
 use Rattle.wiring.specs.Chains.{joined-trans, joined-snoc, joined-sym}
 use Rattle.wiring.specs.Columns.{InColumn, Leaves, leaves}
 
@@ -32,7 +33,9 @@ pub record PinOf (ch : Channel) (n c : ℕ) : Type 0 where
 
 pub pin-of : {ch : Channel} {n c : ℕ} → PinIn ch n c → PinOf ch n c
 unfolding columnOf netOf
-pin-of {c = c} p = ⊎-elim (λ e. record { place = top c; column = refl; net = e }) (λ e. record { place = bot c; column = refl; net = e }) (p .pin)
+pin-of {c = c} p =
+    ⊎-elim (λ e. record { place = top c; column = refl; net = e })
+    (λ e. record { place = bot c; column = refl; net = e }) (p .pin)
 
 module _ (ch : Channel) (esc : Escapes ch) (l : Layout) (g : Good ch l) where
   -- a pin whose net has a pin in another column leaves its own by a trunk
@@ -42,18 +45,22 @@ module _ (ch : Channel) (esc : Escapes ch) (l : Layout) (g : Good ch l) where
       let y = pin-of p in
       let isX : IsPin ch x = subst (λ (k : ℕ). 0 < k) (sym here) pos in
       let isY : IsPin ch (y .place) = subst (λ (k : ℕ). 0 < k) (sym (y .net)) pos in
-      leaves ch l x (g .onGrid) (g .joins x (y .place) isX isY .1 (here ∙ sym (y .net))) (λ i. other (sym (y .column) ∙ i))
+      leaves ch l x (g .onGrid) (g .joins x (y .place) isX isY .1 (here ∙ sym (y .net)))
+      (λ i. other (sym (y .column) ∙ i))
 
   pub trunk-on-track : (x : Pin) (q : Leaves ch l x) → (1 ≤ low (q .trunk)) × (low (q .trunk) ≤ l .tracks)
   trunk-on-track x q =
       let k = q .isTrunk in
-      let r = one-row (width ch) (l .tracks) (q .trunk) (g .onGrid (q .trunk) (q .present)) (λ e. absurd (omega arith)) in
+      let r = one-row (width ch) (l .tracks) (q .trunk) (g .onGrid (q .trunk) (q .present))
+      (λ e. absurd (omega arith)) in
       (r .1, r .2)
 
   -- net a above net b in column c: the trunk of a is the higher
-  pub trunk-order : (a b c : ℕ) → Above ch a b c → (p : Leaves ch l (top c)) (q : Leaves ch l (bot c)) → low (q .trunk) < low (p .trunk)
+  pub trunk-order : (a b c : ℕ) → Above ch a b c → (p : Leaves ch l (top c)) (q : Leaves ch l (bot c))
+      → low (q .trunk) < low (p .trunk)
   unfolding columnOf rowOf netOf Present Touching
-  trunk-order a b c ab p q = elim (decLe (low (p .trunk)) (low (q .trunk))) [ yes h ↦ absurd (short h) | no h ↦ omega arith ]
+  trunk-order a b c ab p q =
+      elim (decLe (low (p .trunk)) (low (q .trunk))) [ yes h ↦ absurd (short h) | no h ↦ omega arith ]
     where
       isA : IsPin ch (top c)
       isA = subst (λ (k : ℕ). 0 < k) (sym (ab .onTop)) (net-positive ch a (ab .upper))
@@ -67,8 +74,16 @@ module _ (ch : Channel) (esc : Escapes ch) (l : Layout) (g : Good ch l) where
           let inside = trunk-on-track (top c) p in
           let wa = p .wired k (inl (omega arith, omega arith)) in
           let wb = q .wired k (inr (omega arith, h)) in
-          let meets : Touch (wa .piece) (wb .piece) = record { column = c; row = k; covers₁ = wa .covered; covers₂ = wb .covered; meets = same-kind-meets (wa .piece) (wb .piece) (wa .branch ∙ sym (wb .branch)) } in
-          let j = joined-trans (joined-snoc (wa .joined) meets (wb .present)) (joined-sym {ch = ch} {l = l} {x = pin (bot c)} isB (wb .joined)) in
+          let meets : Touch (wa .piece) (wb .piece) =
+          record {
+            column = c;
+            row = k;
+            covers₁ = wa .covered;
+            covers₂ = wb .covered;
+            meets = same-kind-meets (wa .branch ∙ sym (wb .branch));
+          } in
+          let j = joined-trans (joined-snoc (wa .joined) meets (wb .present))
+          (joined-sym {ch = ch} {l = l} {x = pin (bot c)} isB (wb .joined)) in
           ab .different ((sym (ab .onTop) ∙ g .joins (top c) (bot c) isA isB .0 j) ∙ ab .onBot)
 
   -- net n has a trunk piece on track k
@@ -82,7 +97,19 @@ module _ (ch : Channel) (esc : Escapes ch) (l : Layout) (g : Good ch l) where
   leaves→track x n pos here q =
       let isX : IsPin ch x = subst (λ (k : ℕ). 0 < k) (sym here) pos in
       let r = member-place (q .present) in
-      record { place = r .0; owned = record { piece = q .trunk; place = r .1; trunk = q .isTrunk; pinOf = x; isPin = isX; net = here; joined = joined-sym {ch = ch} {l = l} {x = pin x} isX (q .joined) }; onTrack = refl }
+      record {
+        place = r .0;
+        owned = record {
+          piece = q .trunk;
+          place = r .1;
+          trunk = q .isTrunk;
+          pinOf = x;
+          isPin = isX;
+          net = here;
+          joined = joined-sym {ch = ch} {l = l} {x = pin x} isX (q .joined);
+        };
+        onTrack = refl;
+      }
 
   -- both nets of a step down have trunks, the upper one's higher
   pub record Lower (a b : ℕ) : Type 0 where
@@ -101,10 +128,17 @@ module _ (ch : Channel) (esc : Escapes ch) (l : Layout) (g : Good ch l) where
       let posB = net-positive ch b (h .lower) in
       let p = leaves-column (top c) a (ua .0) posA (h .onTop) (ua .1) (ua .2) in
       let q = leaves-column (bot c) b (lb .0) posB (h .onBot) (lb .1) (lb .2) in
-      record { upperTrack = low (p .trunk); lowerTrack = low (q .trunk); upper = leaves→track (top c) a posA (h .onTop) p; lower = leaves→track (bot c) b posB (h .onBot) q; falls = trunk-order a b c h p q }
+      record {
+        upperTrack = low (p .trunk);
+        lowerTrack = low (q .trunk);
+        upper = leaves→track (top c) a posA (h .onTop) p;
+        lower = leaves→track (bot c) b posB (h .onBot) q;
+        falls = trunk-order a b c h p q;
+      }
 
   module _ (one : OneTrunkEach ch l) where
-    same-piece : {p q : Piece} {i j : ℕ} → getElem? (l .pieces) i ≡ some p → getElem? (l .pieces) j ≡ some q → i ≡ j → p ≡ q
+    same-piece : {p q : Piece} {i j : ℕ} → getElem? (l .pieces) i ≡ some p → getElem? (l .pieces) j ≡ some q → i ≡ j
+        → p ≡ q
     same-piece {p} {q} {i} {j} hp hq e = let s : some p ≡ some q = sym hp ∙ (ap (getElem? (l .pieces)) e ∙ hq) in cc
 
     -- with one trunk piece per net a net has one track
@@ -114,7 +148,8 @@ module _ (ch : Channel) (esc : Escapes ch) (l : Layout) (g : Good ch l) where
         sym (p .onTrack) ∙ (ap low e ∙ q .onTrack)
 
     -- down a list of steps the tracks fall
-    pub descends-lower : (end : ℕ) (s : Step) (rest : List Step) → Descends (Above ch) end (s ∷ rest) → Lower (s .net) end
+    pub descends-lower : (end : ℕ) (s : Step) (rest : List Step) → Descends (Above ch) end (s ∷ rest)
+        → Lower (s .net) end
     descends-lower end s [] (last h) = above→lower (s .net) end (s .column) h
     descends-lower end s (t ∷ rest) (next h d) =
         let here = above→lower (s .net) (t .net) (s .column) h in
@@ -122,7 +157,13 @@ module _ (ch : Channel) (esc : Escapes ch) (l : Layout) (g : Good ch l) where
         let same = one-track (t .net) (here .lowerTrack) (there .upperTrack) (here .lower) (there .upper) in
         let f₁ = here .falls in
         let f₂ = there .falls in
-        record { upperTrack = here .upperTrack; lowerTrack = there .lowerTrack; upper = here .upper; lower = there .lower; falls = omega arith }
+        record {
+          upperTrack = here .upperTrack;
+          lowerTrack = there .lowerTrack;
+          upper = here .upper;
+          lower = there .lower;
+          falls = omega arith;
+        }
 
     -- so there is no ring
     pub no-ring : (steps : List Step) → Ring ch steps → ⊥

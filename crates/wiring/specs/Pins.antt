@@ -1,12 +1,11 @@
 -- 01, "Wiring rule": the pins of a channel, and the branches that a pin touches.
 use Prim.Native.Nat.{ℕ, _+_, _-_, _<_}
-use mathlib.Core.Path.{_≡_}
 use mathlib.Core.Bool.{Bool, cond, _&&_}
-use lib.Dec.{leb, ltb, eqb}
+use lib.Dec.{T, leb, ltb}
 use Rattle.lists.specs.Lists.{at}
 use Rattle.grid.specs.declared.Piece.{Piece}
-use Rattle.grid.specs.Pieces.{kindOf, branchKind}
-use Rattle.grid.specs.Touching.{Covers, covers}
+use Rattle.grid.specs.Pieces.{kindOf}
+use Rattle.grid.specs.Touching.{pinMeets, Covers, covers}
 use Rattle.channel.specs.Channel.{Channel, width}
 
 -- a pin place, by its row and column
@@ -37,9 +36,9 @@ pinAt ch p = cond (leb p (width ch)) (top p) (bot (p - width ch))
 
 -- "A pin touches a branch that covers its point"
 pub record PinTouch (t : ℕ) (x : Pin) (p : Piece) : Type 0 where
-  pub branch : kindOf p ≡ branchKind
+  pub meets : T (pinMeets (kindOf p))
   pub covered : Covers p (columnOf x) (rowOf t x)
 
 -- `PinTouch` of a pin, as a test
 unfoldable pub pinTouches : Channel → ℕ → Pin → Piece → Bool
-pinTouches ch t x p = ltb 0 (netOf ch x) && (eqb (kindOf p) branchKind && covers p (columnOf x) (rowOf t x))
+pinTouches ch t x p = ltb 0 (netOf ch x) && (pinMeets (kindOf p) && covers p (columnOf x) (rowOf t x))

@@ -1,5 +1,6 @@
--- `blank` meets its contract. The loop's invariant: the first i entries of the table are below `tracks`. What is left of the table falls.
--- Where an entry is not below, `chosen` says that it is the smallest that holds the tracks; at the end of the table, `none-chosen` says that none does.
+-- `blank` meets its contract. The loop's invariant: the first i entries of the table are below `tracks`. What is left
+-- of the table falls. Where an entry is not below, `chosen` says that it is the smallest that holds the tracks; at the
+-- end of the table, `none-chosen` says that none does.
 use Prim.Native.Nat.{_-_, _≤_}
 use native.Mathlib.Omega.{arith}
 use mathlib.Core.Path.{_≡_, sym, subst}
@@ -19,29 +20,12 @@ abbrev μ-loop : tie.MeasureT-loop
 loop-holds : tie.Need-loop-holds Inv-loop μ-loop
 loop-holds c = (omega arith, λ k l. absurd (omega arith))
 
-mul-if1 : tie.Need-mul-if1 Inv-loop μ-loop
-mul-if1 c = search needs
-
-array-read-if1 : tie.Need-array-read-if1 Inv-loop μ-loop
-array-read-if1 c = search needs
-
-mul-t10 : tie.Need-mul-t10 Inv-loop μ-loop
-mul-t10 c = search needs
-
-array-read-t13 : tie.Need-array-read-t13 Inv-loop μ-loop
-array-read-t13 c = search needs
-
 returns : tie.Need-returns Inv-loop μ-loop
 unfolding stock
 returns c =
     let at = c .before .before .loop in
-    sym (chosen (c .before .before .before .args .tracks) (at .i) (c .before .loop-test .taken) (at .inv .1) (c .if1 .taken))
-
-add-i : tie.Need-add-i Inv-loop μ-loop
-add-i c = omega arith
-
-loop-less : tie.Need-loop-less Inv-loop μ-loop
-loop-less c = omega arith
+    sym (chosen (c .before .before .before .args .tracks) (at .i) (c .before .loop-test .taken) (at .inv .1)
+    (c .if1 .taken))
 
 loop-again : tie.Need-loop-again Inv-loop μ-loop
 unfolding stock
@@ -56,16 +40,5 @@ returns-2 c =
 pub blank-spec : {M : Type 1} → statement M
 blank-spec =
     tie.close
-    (tie.spec
-    Inv-loop
-    μ-loop
-    loop-holds
-    mul-if1
-    array-read-if1
-    mul-t10
-    array-read-t13
-    returns
-    add-i
-    loop-less
-    loop-again
-    returns-2)
+    (tie.spec Inv-loop μ-loop loop-holds (λ c. search needs) (λ c. search needs) (λ c. search needs) (λ c. search needs)
+    returns (λ c. omega arith) (λ c. omega arith) loop-again returns-2)

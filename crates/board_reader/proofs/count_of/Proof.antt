@@ -1,19 +1,10 @@
--- `count_of` meets its contract: in each arm the answer of `open` is the constructor that the arm knows, and its count is what the reader counts.
--- Assumes nothing.
+-- `count_of` meets its contract: in each arm the answer of `open` is the constructor that the arm knows, and its count
+-- is what the reader counts. Assumes nothing.
 use mathlib.Core.Path.{sym, _∙_, ap}
 use borrow.Author.Needs.{needs}
 use Rattle.board_reader.specs.Reader.{countIn, readerCount}
 use Rattle.board_reader.proofs.count_of.Statement.{statement}
 use Rattle.board_reader.proofs.count_of.Tie as tie
-
-open-requires : tie.Need-open-requires
-open-requires c κs = search needs
-
-enum-known-count : tie.Need-enum-known-count
-enum-known-count c = search needs
-
-cast-result : tie.Need-cast-result
-cast-result c = search needs
 
 enum-told : tie.Need-enum-told
 enum-told c = search needs
@@ -28,4 +19,4 @@ returns-2 c = ap countIn (sym (c .enum-told .given .1) ∙ c .before .before .«
 
 pub count-of-spec : {M : Type 1} → statement M
 count-of-spec =
-    tie.close (tie.spec open-requires enum-known-count cast-result enum-told returns returns-2)
+    tie.close (tie.spec (λ c κs. search needs) (λ c. search needs) (λ c. search needs) enum-told returns returns-2)

@@ -1,5 +1,6 @@
--- `first_bad` meets its contract. The loop's invariant: every piece below i is right, and i is at most one past the last piece. What is left of the count falls.
--- Where a piece is wrong, `first-bad-at` says that it is the first; where the loop ends, `none-bad` says that there is none.
+-- `first_bad` meets its contract. The loop's invariant: every piece below i is right, and i is at most one past the
+-- last piece. What is left of the count falls. Where a piece is wrong, `first-bad-at` says that it is the first; where
+-- the loop ends, `none-bad` says that there is none.
 use Prim.Native.Nat.{_+_, _-_, _≤_}
 use native.Mathlib.Omega.{arith}
 use mathlib.Core.Path.{_≡_, sym, subst}
@@ -20,31 +21,14 @@ abbrev μ-loop : tie.MeasureT-loop
 loop-holds : tie.Need-loop-holds Inv-loop μ-loop
 loop-holds c = (omega arith, omega arith, λ k l m. absurd (omega arith))
 
-cast-word-at : tie.Need-cast-word-at Inv-loop μ-loop
-cast-word-at c = omega arith
-
-mul-word-at : tie.Need-mul-word-at Inv-loop μ-loop
-mul-word-at c = omega arith
-
-word-at-requires : tie.Need-word-at-requires Inv-loop μ-loop
-word-at-requires c κs = omega arith
-
-word-right-requires : tie.Need-word-right-requires Inv-loop μ-loop
-word-right-requires c κs = search needs
-
 returns : tie.Need-returns Inv-loop μ-loop
 returns c =
     let a = c .before .before .before .before .before .before .args in
     let i = c .before .before .before .before .loop .i in
     let inv = c .before .before .before .before .loop .inv in
     let bad = not-true (c .before .word-right .result) (c .if1 .taken) in
-    sym (first-bad-at (now (a .board)) (a .width) (a .tracks) (a .count) i (inv .0) (c .before .before .before .loop-test .taken) (inv .2) (cc))
-
-add-i : tie.Need-add-i Inv-loop μ-loop
-add-i c = omega arith
-
-loop-less : tie.Need-loop-less Inv-loop μ-loop
-loop-less c = omega arith
+    sym (first-bad-at (now (a .board)) (a .width) (a .tracks) (a .count) i (inv .0)
+    (c .before .before .before .loop-test .taken) (inv .2) (cc))
 
 loop-again : tie.Need-loop-again Inv-loop μ-loop
 loop-again c =
@@ -57,21 +41,11 @@ returns-2 c =
     let a = c .before .before .before .args in
     let inv = c .before .loop .inv in
     let end : c .before .loop .i ≡ a .count + 1 = omega arith in
-    sym (none-bad (now (a .board)) (a .width) (a .tracks) (a .count) (subst (RightBelow (now (a .board)) (a .width) (a .tracks) (a .count)) end (inv .2)))
+    sym (none-bad (now (a .board)) (a .width) (a .tracks) (a .count)
+    (subst (RightBelow (now (a .board)) (a .width) (a .tracks) (a .count)) end (inv .2)))
 
 pub first-bad-spec : {M : Type 1} → statement M
 first-bad-spec =
     tie.close
-    (tie.spec
-    Inv-loop
-    μ-loop
-    loop-holds
-    cast-word-at
-    mul-word-at
-    word-at-requires
-    word-right-requires
-    returns
-    add-i
-    loop-less
-    loop-again
-    returns-2)
+    (tie.spec Inv-loop μ-loop loop-holds (λ c. omega arith) (λ c. omega arith) (λ c κs. omega arith)
+    (λ c κs. search needs) returns (λ c. omega arith) (λ c. omega arith) loop-again returns-2)

@@ -8,19 +8,11 @@ use Rattle.boardfile.specs.Encode.{word}
 use Rattle.boardfile.proofs.put_piece.Statement.{statement}
 use Rattle.boardfile.proofs.put_piece.Tie as tie
 
-word-of-requires : tie.Need-word-of-requires
-word-of-requires c κs = search needs
-
-put-word-requires : tie.Need-put-word-requires
-put-word-requires c κs = search needs
-
-same-length : tie.Need-same-length
-same-length c = search needs
-
 returns : tie.Need-returns
 returns c =
     let a = c .before .before .before .before .before .before .args in
-    c .before .before .put-word .ensures ∙ ap (λ (v : ℕ). sets (now (a .board)) (a .at) (word v)) (c .before .before .before .word-of .ensures)
+    c .before .before .put-word .ensures ∙ ap (λ (v : ℕ). sets (now (a .board)) (a .at) (word v))
+    (c .before .before .before .word-of .ensures)
 
 pub put-piece-spec : {M : Type 1} → statement M
-put-piece-spec = tie.close (tie.spec word-of-requires put-word-requires same-length returns)
+put-piece-spec = tie.close (tie.spec (λ c κs. search needs) (λ c κs. search needs) (λ c. search needs) returns)

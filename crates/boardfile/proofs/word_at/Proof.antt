@@ -11,31 +11,27 @@ first : (c : tie.After-wide) → c .wide .result < 256
 first c = omega (arith, c .before .shared-slice-known2 .given (c .before .before .before .args .at))
 
 second : (c : tie.After-wide2) → c .wide2 .result < 256
-second c = omega (arith, c .before .shared-slice-known3 .given (c .before .before .before .before .before .args .at + 1))
+second c =
+    omega (arith, c .before .shared-slice-known3 .given (c .before .before .before .before .before .args .at + 1))
 
 third : (c : tie.After-wide3) → c .wide3 .result < 256
-third c = omega (arith, c .before .shared-slice-known4 .given (c .before .before .before .before .before .before .before .args .at + 2))
+third c =
+    omega (
+      arith,
+      c .before .shared-slice-known4 .given
+          (c .before .before .before .before .before .before .before .args .at + 2),
+    )
 
 fourth : (c : tie.After-wide4) → c .wide4 .result < 256
-fourth c = omega (arith, c .before .shared-slice-known5 .given (c .before .before .before .before .before .before .before .before .before .args .at + 3))
-
-shared-slice-read-wide : tie.Need-shared-slice-read-wide
-shared-slice-read-wide c = search needs
-
-wide-requires : tie.Need-wide-requires
-wide-requires c κs = search needs
+fourth c =
+    omega (
+      arith,
+      c .before .shared-slice-known5 .given
+          (c .before .before .before .before .before .before .before .before .before .args .at + 3),
+    )
 
 mul-result : tie.Need-mul-result
 mul-result c = omega (arith, first c)
-
-add-wide : tie.Need-add-wide
-add-wide c = search needs
-
-shared-slice-read-wide-2 : tie.Need-shared-slice-read-wide-2
-shared-slice-read-wide-2 c = search needs
-
-wide-requires-2 : tie.Need-wide-requires-2
-wide-requires-2 c κs = search needs
 
 mul-result-2 : tie.Need-mul-result-2
 mul-result-2 c = omega (arith, second c)
@@ -43,32 +39,21 @@ mul-result-2 c = omega (arith, second c)
 add-result : tie.Need-add-result
 add-result c = omega (arith, first (c .before .before), second c)
 
-add-wide-2 : tie.Need-add-wide-2
-add-wide-2 c = search needs
-
-shared-slice-read-wide-3 : tie.Need-shared-slice-read-wide-3
-shared-slice-read-wide-3 c = search needs
-
-wide-requires-3 : tie.Need-wide-requires-3
-wide-requires-3 c κs = search needs
-
 mul-result-3 : tie.Need-mul-result-3
 mul-result-3 c = omega (arith, third c)
 
 add-result-2 : tie.Need-add-result-2
 add-result-2 c = omega (arith, first (c .before .before .before .before), second (c .before .before), third c)
 
-add-wide-3 : tie.Need-add-wide-3
-add-wide-3 c = search needs
-
-shared-slice-read-wide-4 : tie.Need-shared-slice-read-wide-4
-shared-slice-read-wide-4 c = search needs
-
-wide-requires-4 : tie.Need-wide-requires-4
-wide-requires-4 c κs = search needs
-
 add-result-3 : tie.Need-add-result-3
-add-result-3 c = omega (arith, first (c .before .before .before .before .before .before), second (c .before .before .before .before), third (c .before .before), fourth c)
+add-result-3 c =
+    omega (
+      arith,
+      first (c .before .before .before .before .before .before),
+      second (c .before .before .before .before),
+      third (c .before .before),
+      fourth c,
+    )
 
 returns : tie.Need-returns
 unfolding wordAt
@@ -77,22 +62,6 @@ returns c = omega arith
 pub word-at-spec : {M : Type 1} → statement M
 word-at-spec =
     tie.close
-    (tie.spec
-    shared-slice-read-wide
-    wide-requires
-    mul-result
-    add-wide
-    shared-slice-read-wide-2
-    wide-requires-2
-    mul-result-2
-    add-result
-    add-wide-2
-    shared-slice-read-wide-3
-    wide-requires-3
-    mul-result-3
-    add-result-2
-    add-wide-3
-    shared-slice-read-wide-4
-    wide-requires-4
-    add-result-3
-    returns)
+    (tie.spec (λ c. search needs) (λ c κs. search needs) mul-result (λ c. search needs) (λ c. search needs)
+    (λ c κs. search needs) mul-result-2 add-result (λ c. search needs) (λ c. search needs) (λ c κs. search needs)
+    mul-result-3 add-result-2 (λ c. search needs) (λ c. search needs) (λ c κs. search needs) add-result-3 returns)

@@ -1,4 +1,5 @@
--- `word_of` meets its contract: in each arm the words of the piece are those of the constructor that the arm knows, and have ten bits each.
+-- `word_of` meets its contract: in each arm the words of the piece are those of the constructor that the arm knows, and
+-- have ten bits each.
 use native.Mathlib.Omega.{arith}
 use mathlib.Core.Path.{subst}
 use borrow.Author.Needs.{needs}
@@ -10,17 +11,16 @@ use Rattle.boardfile.specs.Code.{SmallWords}
 use Rattle.boardfile.proofs.word_of.Statement.{statement}
 use Rattle.boardfile.proofs.word_of.Tie as tie
 
-trunk : (c : tie.After-piece) → SmallWords (Trunk (c .piece .given .0 .0) (c .piece .given .0 .1 .0) (c .piece .given .0 .1 .1 .0))
+trunk : (c : tie.After-piece) → SmallWords (Trunk (c .piece .given .0 .0) (c .piece .given .0 .1 .0)
+    (c .piece .given .0 .1 .1 .0))
 trunk c = subst SmallWords (c .piece .given .1) (c .before .before .pre)
 
-branch : (c : tie.After-piece2) → SmallWords (Branch (c .piece2 .given .0 .0) (c .piece2 .given .0 .1 .0) (c .piece2 .given .0 .1 .1 .0))
+branch : (c : tie.After-piece2) → SmallWords (Branch (c .piece2 .given .0 .0) (c .piece2 .given .0 .1 .0)
+    (c .piece2 .given .0 .1 .1 .0))
 branch c = subst SmallWords (c .piece2 .given .1) (c .before .before .pre)
 
 contact : (c : tie.After-piece3) → SmallWords (Contact (c .piece3 .given .0 .0) (c .piece3 .given .0 .1 .0))
 contact c = subst SmallWords (c .piece3 .given .1) (c .before .before .pre)
-
-enum-known-piece : tie.Need-enum-known-piece
-enum-known-piece c = search needs
 
 mul-result : tie.Need-mul-result
 unfolding lineOf fromOf toOf
@@ -37,9 +37,6 @@ add-result c = omega (arith, trunk (c .before .before .before))
 add-result-2 : tie.Need-add-result-2
 unfolding lineOf fromOf toOf
 add-result-2 c = omega (arith, trunk (c .before .before .before .before))
-
-enum-known-piece-2 : tie.Need-enum-known-piece-2
-enum-known-piece-2 c = search needs
 
 mul-result-3 : tie.Need-mul-result-3
 unfolding lineOf fromOf toOf
@@ -60,9 +57,6 @@ add-result-4 c = omega (arith, branch (c .before .before .before))
 add-result-5 : tie.Need-add-result-5
 unfolding lineOf fromOf toOf
 add-result-5 c = omega (arith, branch (c .before .before .before .before))
-
-enum-known-piece-3 : tie.Need-enum-known-piece-3
-enum-known-piece-3 c = search needs
 
 mul-result-5 : tie.Need-mul-result-5
 unfolding lineOf fromOf toOf
@@ -99,24 +93,6 @@ returns-3 c = rw (c .before .before .before .before .piece3 .given .1) (omega ar
 pub word-of-spec : {M : Type 1} → statement M
 word-of-spec =
     tie.close
-    (tie.spec
-    enum-known-piece
-    mul-result
-    mul-result-2
-    add-result
-    add-result-2
-    enum-known-piece-2
-    mul-result-3
-    add-result-3
-    mul-result-4
-    add-result-4
-    add-result-5
-    enum-known-piece-3
-    mul-result-5
-    add-result-6
-    mul-result-6
-    add-result-7
-    add-result-8
-    returns
-    returns-2
-    returns-3)
+    (tie.spec (λ c. search needs) mul-result mul-result-2 add-result add-result-2 (λ c. search needs) mul-result-3
+    add-result-3 mul-result-4 add-result-4 add-result-5 (λ c. search needs) mul-result-5 add-result-6 mul-result-6
+    add-result-7 add-result-8 returns returns-2 returns-3)

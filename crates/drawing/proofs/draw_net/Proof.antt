@@ -12,24 +12,15 @@ draw-span-requires c κs =
     let pre = c .before .before .before .before .before .before .before .pre in
     (pre .0, pre .1, subst (Room _ _) (pieces-span _ _ _ _ (pre .1) _ _ (omega arith)) (pre .2))
 
-same-length : tie.Need-same-length
-same-length c = search needs
-
 returns : tie.Need-returns
 returns c =
     let pre = c .before .before .before .before .before .before .before .before .before .before .pre in
     subst⁻¹ (Put _ _ _ _) (pieces-span _ _ _ _ (pre .1) _ _ (omega arith)) (c .before .before .draw-span .ensures)
 
-add-t16 : tie.Need-add-t16
-add-t16 c = search needs
-
 put-requires : tie.Need-put-requires
 put-requires c κs =
     let pre = c .before .before .before .before .before .before .before .pre in
     subst (Room _ _) (pieces-straight _ _ _ _ (pre .1) _ _ (omega arith)) (pre .2)
-
-same-length-2 : tie.Need-same-length-2
-same-length-2 c = search needs
 
 returns-2 : tie.Need-returns-2
 returns-2 c =
@@ -39,4 +30,5 @@ returns-2 c =
 pub draw-net-spec : {M : Type 1} → statement M
 draw-net-spec =
     tie.close
-    (tie.spec draw-span-requires same-length returns add-t16 put-requires same-length-2 returns-2)
+    (tie.spec draw-span-requires (λ c. search needs) returns (λ c. search needs) put-requires (λ c. search needs)
+    returns-2)

@@ -8,24 +8,6 @@ use Rattle.drawing.specs.CodeLaws.{has-pin-array}
 use Rattle.drawing.proofs.has_pin.Statement.{statement}
 use Rattle.drawing.proofs.has_pin.Tie as tie
 
-cast-i : tie.Need-cast-i
-cast-i c = search needs
-
-sub-i : tie.Need-sub-i
-sub-i c = search needs
-
-mul-result : tie.Need-mul-result
-mul-result c = search needs
-
-shared-slice-read-result : tie.Need-shared-slice-read-result
-shared-slice-read-result c = search needs
-
-mul-result-2 : tie.Need-mul-result-2
-mul-result-2 c = search needs
-
-shared-slice-read-result-2 : tie.Need-shared-slice-read-result-2
-shared-slice-read-result-2 c = search needs
-
 returns : tie.Need-returns
 returns c =
     let a = c .before .before .before .before .before .args in
@@ -34,11 +16,5 @@ returns c =
 pub has-pin-spec : {M : Type 1} → statement M
 has-pin-spec =
     tie.close
-    (tie.spec
-    cast-i
-    sub-i
-    mul-result
-    shared-slice-read-result
-    mul-result-2
-    shared-slice-read-result-2
-    returns)
+    (tie.spec (λ c. search needs) (λ c. search needs) (λ c. search needs) (λ c. search needs) (λ c. search needs)
+    (λ c. search needs) returns)

@@ -8,22 +8,10 @@ use Rattle.drawing.specs.Putting.{put-one}
 use Rattle.drawing.proofs.put.Statement.{statement}
 use Rattle.drawing.proofs.put.Tie as tie
 
-mul-put-piece : tie.Need-mul-put-piece
-mul-put-piece c = search needs
-
-add-put-piece : tie.Need-add-put-piece
-add-put-piece c = search needs
-
 put-piece-requires : tie.Need-put-piece-requires
 put-piece-requires c κs =
     let r = c .before .before .pre in
     (omega arith, r .small (c .before .before .args .piece) (List·Memᴰ·head refl))
-
-add-result : tie.Need-add-result
-add-result c = search needs
-
-same-length : tie.Need-same-length
-same-length c = search needs
 
 returns : tie.Need-returns
 returns c =
@@ -33,4 +21,5 @@ returns c =
 pub put-spec : {M : Type 1} → statement M
 put-spec =
     tie.close
-    (tie.spec mul-put-piece add-put-piece put-piece-requires add-result same-length returns)
+    (tie.spec (λ c. search needs) (λ c. search needs) put-piece-requires (λ c. search needs) (λ c. search needs)
+    returns)

@@ -1,4 +1,5 @@
--- `judge` meets its contract. There is no loop: each test leads to the answer that the chain of refusals gives at it, by the law of that answer, and past all of them stands the finding.
+-- `judge` meets its contract. There is no loop: each test leads to the answer that the chain of refusals gives at it,
+-- by the law of that answer, and past all of them stands the finding.
 use borrow.Author.Needs.{needs}
 use Prim.Native.Nat.{ℕ}
 use mathlib.Core.Path.{_≡_, refl, sym, _∙_}
@@ -8,7 +9,8 @@ use denote.Ref.{now}
 use Rattle.channel.specs.declared.RowsAnswer.the-variants as checking
 use Rattle.channel.specs.Channel.{Channel, rows}
 use Rattle.channel.specs.Answers.{rowsAnswer}
-use Rattle.judge.specs.JudgeSteps.{BoardOpen, board-open, answer-short, answer-rows, answer-open, answer-width, answer-found, pieces-ready, judged-well}
+use Rattle.judge.specs.JudgeSteps.{BoardOpen, board-open, answer-short, answer-rows, answer-open, answer-width}
+use Rattle.judge.specs.JudgeSteps.{answer-found, pieces-ready, judged-well}
 use Rattle.judge.proofs.judge.Statement.{statement}
 use Rattle.judge.proofs.judge.Tie as tie
 
@@ -23,97 +25,82 @@ abbrev lent : tie.Start → ℕ
 lent c = length (now (c .args .scratch))
 
 -- past the rows, and past the file
-accepted : (c : tie.After-enum-told) → checking.Accepted ≡ rowsAnswer (rows-of (c .before .before .before .before .before .before .before .before))
+accepted : (c : tie.After-enum-told) → checking.Accepted ≡ rowsAnswer
+    (rows-of (c .before .before .before .before .before .before .before .before))
 accepted c = sym (c .enum-told .given .1) ∙ c .before .before .check .ensures
 
-board-opened : (c : tie.After-width) → BoardOpen (board-of (c .before .before .before .before .before .before .before .before .before .before .before)) (c .width .given .0 .0) (c .width .given .0 .1 .0) (c .width .given .0 .1 .1 .0)
-board-opened c = board-open (board-of (c .before .before .before .before .before .before .before .before .before .before .before)) (c .width .given .0 .0) (c .width .given .0 .1 .0) (c .width .given .0 .1 .1 .0) (sym (c .width .given .1) ∙ c .before .before .«open» .ensures)
+board-opened : (c : tie.After-width) → BoardOpen
+    (board-of (c .before .before .before .before .before .before .before .before .before .before .before))
+    (c .width .given .0 .0) (c .width .given .0 .1 .0) (c .width .given .0 .1 .1 .0)
+board-opened c =
+    board-open (board-of (c .before .before .before .before .before .before .before .before .before .before .before))
+    (c .width .given .0 .0) (c .width .given .0 .1 .0) (c .width .given .0 .1 .1 .0)
+    (sym (c .width .given .1) ∙ c .before .before .«open» .ensures)
 
 returns : tie.Need-returns
 returns c =
     let s = c .before .before .before .before .before in
-    judged-well (rows-of s) (board-of s) (now (s .args .scratch)) (now (s .args .scratch)) _ (answer-short (rows-of s) (board-of s) (lent s) (c .if1 .taken)) refl
-
-check-requires : tie.Need-check-requires
-check-requires c κs = search needs
-
-enum-known-refusal : tie.Need-enum-known-refusal
-enum-known-refusal c = search needs
+    judged-well (rows-of s) (board-of s) (now (s .args .scratch)) (now (s .args .scratch)) _
+    (answer-short (rows-of s) (board-of s) (lent s) (c .if1 .taken)) refl
 
 enum-told : tie.Need-enum-told
 enum-told c = search needs
-
-open-requires : tie.Need-open-requires
-open-requires c κs = search needs
-
-enum-known-refusal-2 : tie.Need-enum-known-refusal-2
-enum-known-refusal-2 c = search needs
-
-enum-known-width : tie.Need-enum-known-width
-enum-known-width c = search needs
-
-cast-if2 : tie.Need-cast-if2
-cast-if2 c = search needs
-
-cast-t20 : tie.Need-cast-t20
-cast-t20 c = search needs
 
 returns-2 : tie.Need-returns-2
 returns-2 c =
     let s = c .before .before .before .before .before .before .before .before .before .before .before .before .before in
     let w = c .before .before in
     judged-well (rows-of s) (board-of s) (now (s .args .scratch)) (now (s .args .scratch)) _
-    (answer-width (rows-of s) (board-of s) (lent s) (c .before .before .before .before .before .before .before .before .if1 .left) (accepted (c .before .before .before .before .before)) (w .width .given .0 .0) (w .width .given .0 .1 .0) (w .width .given .0 .1 .1 .0) (board-opened w) (c .if2 .taken)) refl
-
-cast-judge-pieces : tie.Need-cast-judge-pieces
-cast-judge-pieces c = search needs
+    (answer-width (rows-of s) (board-of s) (lent s)
+    (c .before .before .before .before .before .before .before .before .if1 .left)
+    (accepted (c .before .before .before .before .before)) (w .width .given .0 .0) (w .width .given .0 .1 .0)
+    (w .width .given .0 .1 .1 .0) (board-opened w) (c .if2 .taken)) refl
 
 judge-pieces-requires : tie.Need-judge-pieces-requires
 judge-pieces-requires c κs =
-    let s = c .before .before .before .before .before .before .before .before .before .before .before .before .before .before in
+    let s =
+    c .before .before .before .before .before .before .before .before .before .before .before .before .before .before in
     let w = c .before .before .before in
-    pieces-ready (rows-of s) (board-of s) (lent s) (c .before .before .before .before .before .before .before .before .before .if1 .left) (accepted (c .before .before .before .before .before .before)) (w .width .given .0 .0) (w .width .given .0 .1 .0) (w .width .given .0 .1 .1 .0) (board-opened w) (c .before .if2 .left) (now (s .args .scratch)) refl
+    pieces-ready (rows-of s) (board-of s) (lent s)
+    (c .before .before .before .before .before .before .before .before .before .if1 .left)
+    (accepted (c .before .before .before .before .before .before)) (w .width .given .0 .0) (w .width .given .0 .1 .0)
+    (w .width .given .0 .1 .1 .0) (board-opened w) (c .before .if2 .left) (now (s .args .scratch)) refl
 
 returns-3 : tie.Need-returns-3
 returns-3 c =
     let s = c .before .before .before .before .before .before .before .before .before in
     judged-well (rows-of s) (board-of s) (now (s .args .scratch)) (now (s .args .scratch)) _
-    (answer-rows (rows-of s) (board-of s) (lent s) (c .before .before .before .before .if1 .left) (c .before .refusal .given .0 .0) (sym (c .before .refusal .given .1) ∙ c .before .before .before .check .ensures)) refl
+    (answer-rows (rows-of s) (board-of s) (lent s) (c .before .before .before .before .if1 .left)
+    (c .before .refusal .given .0 .0) (sym (c .before .refusal .given .1) ∙ c .before .before .before .check .ensures))
+    refl
 
 returns-4 : tie.Need-returns-4
 returns-4 c =
     let s = c .before .before .before .before .before .before .before .before .before .before .before .before in
     judged-well (rows-of s) (board-of s) (now (s .args .scratch)) (now (s .args .scratch)) _
-    (answer-open (rows-of s) (board-of s) (lent s) (c .before .before .before .before .before .before .before .if1 .left) (accepted (c .before .before .before .before)) (c .before .refusal2 .given .0 .0) (sym (c .before .refusal2 .given .1) ∙ c .before .before .before .«open» .ensures)) refl
-
-same-length : tie.Need-same-length
-same-length c = search needs
+    (answer-open (rows-of s) (board-of s) (lent s)
+    (c .before .before .before .before .before .before .before .if1 .left)
+    (accepted (c .before .before .before .before)) (c .before .refusal2 .given .0 .0)
+    (sym (c .before .refusal2 .given .1) ∙ c .before .before .before .«open» .ensures)) refl
 
 returns-5 : tie.Need-returns-5
 returns-5 c =
-    let s = c .before .before .before .before .before .before .before .before .before .before .before .before .before .before .before .before .before in
+    let s =
+    c .before .before .before .before .before .before .before .before .before .before .before .before .before .before .before .before .before in
     let w = c .before .before .before .before .before .before in
-    judged-well (rows-of s) (board-of s) (now (s .args .scratch)) (c .before .before .judge-pieces .last .1 .1 .1 .1 .1 .0) (c .before .before .judge-pieces .result)
-    (answer-found (rows-of s) (board-of s) (lent s) (c .before .before .before .before .before .before .before .before .before .before .before .before .if1 .left) (accepted (c .before .before .before .before .before .before .before .before .before)) (w .width .given .0 .0) (w .width .given .0 .1 .0) (w .width .given .0 .1 .1 .0) (board-opened w) (c .before .before .before .before .if2 .left) (c .before .before .judge-pieces .result) (c .before .before .judge-pieces .ensures))
+    judged-well (rows-of s) (board-of s) (now (s .args .scratch))
+    (c .before .before .judge-pieces .last .1 .1 .1 .1 .1 .0) (c .before .before .judge-pieces .result)
+    (answer-found (rows-of s) (board-of s) (lent s)
+    (c .before .before .before .before .before .before .before .before .before .before .before .before .if1 .left)
+    (accepted (c .before .before .before .before .before .before .before .before .before)) (w .width .given .0 .0)
+    (w .width .given .0 .1 .0) (w .width .given .0 .1 .1 .0) (board-opened w)
+    (c .before .before .before .before .if2 .left) (c .before .before .judge-pieces .result)
+    (c .before .before .judge-pieces .ensures))
     (c .before .before .judge-pieces .kept .1 .1 .1 .1 .1 .0)
 
 pub judge-spec : {M : Type 1} → statement M
 judge-spec =
     tie.close
-    (tie.spec
-    returns
-    check-requires
-    enum-known-refusal
-    enum-told
-    open-requires
-    enum-known-refusal-2
-    enum-known-width
-    cast-if2
-    cast-t20
-    returns-2
-    cast-judge-pieces
-    judge-pieces-requires
-    returns-3
-    returns-4
-    same-length
-    returns-5)
+    (tie.spec returns (λ c κs. search needs) (λ c. search needs) enum-told (λ c κs. search needs) (λ c. search needs)
+    (λ c. search needs) (λ c. search needs) (λ c. search needs) returns-2 (λ c. search needs) judge-pieces-requires
+    returns-3 returns-4 (λ c. search needs) returns-5)

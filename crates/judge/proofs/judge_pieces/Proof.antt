@@ -1,11 +1,13 @@
--- `judge_pieces` meets its contract: the words are those of the file, so the marks are those of its layout, and what is found in them is the finding.
+-- `judge_pieces` meets its contract: the words are those of the file, so the marks are those of its layout, and what is
+-- found in them is the finding.
 use borrow.Author.Needs.{needs}
 use mathlib.Core.Path.{refl, sym, _∙_}
 use denote.Ref.{now}
 use Rattle.channel.specs.Channel.{Channel, rows}
 use Rattle.boardfile.specs.Open.{fileLayout}
 use Rattle.judge.specs.Finding.{finding}
-use Rattle.judge.specs.JudgeSteps.{file-long, mark-ready, room-kept, fault-ready, file-marks, file-pieces, found-nothing, found-fault}
+use Rattle.judge.specs.JudgeSteps.{file-long, mark-ready, room-kept, fault-ready, file-marks, file-pieces}
+use Rattle.judge.specs.JudgeSteps.{found-nothing, found-fault}
 use Rattle.judge.proofs.judge_pieces.Statement.{statement}
 use Rattle.judge.proofs.judge_pieces.Tie as tie
 
@@ -33,61 +35,61 @@ find-fault-requires c κs =
     let a = c .before .before .before .before .before .before .before .before .before .before .before .before .args in
     let ch : Channel = rows (now (a .top)) (now (a .bot)) in
     let board = now (a .board) in
-    let ready = c .before .before .before .before .before .before .before .before .before .before .before .before .pre in
+    let ready =
+    c .before .before .before .before .before .before .before .before .before .before .before .before .pre in
     let words = c .before .before .before .before .before .before .read-words .last .1 .1 .0 in
     let read = c .before .before .before .before .before .before .read-words .ensures in
     let marked = c .before .before .before .mark-classes .last .1 .1 .1 .1 .1 .0 in
-    let kept = c .before .before .before .mark-classes .kept .1 .1 .1 .1 .1 .0 in
-    (room-kept ch board words (now (a .scratch)) (a .tracks) (a .count) ready read marked kept (c .before .before .before .mark-classes .ensures), fault-ready ch board words (now (a .scratch)) (a .tracks) (a .count) ready read marked kept (c .before .before .before .mark-classes .ensures))
+    let kept = c .before .before .before .mark-classes .kept .1 .1 .1 .1 .1 .0 in (
+      room-kept ch board words (now (a .scratch)) (a .tracks) (a .count) ready read marked kept
+          (c .before .before .before .mark-classes .ensures),
+      fault-ready ch board words (now (a .scratch)) (a .tracks) (a .count) ready read marked kept
+          (c .before .before .before .mark-classes .ensures),
+    )
 
 enum-told : tie.Need-enum-told
 enum-told c = search needs
 
-enum-known-fault : tie.Need-enum-known-fault
-enum-known-fault c = search needs
-
-same-length : tie.Need-same-length
-same-length c = search needs
-
 returns : tie.Need-returns
 returns c =
-    let a = c .before .before .before .before .before .before .before .before .before .before .before .before .before .before .before .args in
+    let a =
+    c .before .before .before .before .before .before .before .before .before .before .before .before .before .before .before .args in
     let ch : Channel = rows (now (a .top)) (now (a .bot)) in
     let board = now (a .board) in
-    let ready = c .before .before .before .before .before .before .before .before .before .before .before .before .before .before .before .pre in
+    let ready =
+    c .before .before .before .before .before .before .before .before .before .before .before .before .before .before .before .pre in
     let words = c .before .before .before .before .before .before .before .before .before .read-words .last .1 .1 .0 in
     let read = c .before .before .before .before .before .before .before .before .before .read-words .ensures in
     let marked = c .before .before .before .before .before .before .mark-classes .last .1 .1 .1 .1 .1 .0 in
     let kept = c .before .before .before .before .before .before .mark-classes .kept .1 .1 .1 .1 .1 .0 in
-    let said = c .before .before .find-fault .ensures (fileLayout board) (file-pieces ch board words (now (a .scratch)) (a .tracks) (a .count) ready read) (file-marks ch board words (now (a .scratch)) (a .tracks) (a .count) ready read marked kept (c .before .before .before .before .before .before .mark-classes .ensures)) in
+    let said = c .before .before .find-fault .ensures (fileLayout board)
+    (file-pieces ch board words (now (a .scratch)) (a .tracks) (a .count) ready read)
+    (file-marks ch board words (now (a .scratch)) (a .tracks) (a .count) ready read marked kept
+    (c .before .before .before .before .before .before .mark-classes .ensures)) in
     found-nothing (a .tracks) (finding ch (fileLayout board)) (sym (c .enum-told .given .1) ∙ said)
-
-same-length-2 : tie.Need-same-length-2
-same-length-2 c = search needs
 
 returns-2 : tie.Need-returns-2
 returns-2 c =
-    let a = c .before .before .before .before .before .before .before .before .before .before .before .before .before .before .before .before .args in
+    let a =
+    c .before .before .before .before .before .before .before .before .before .before .before .before .before .before .before .before .args in
     let ch : Channel = rows (now (a .top)) (now (a .bot)) in
     let board = now (a .board) in
-    let ready = c .before .before .before .before .before .before .before .before .before .before .before .before .before .before .before .before .pre in
-    let words = c .before .before .before .before .before .before .before .before .before .before .read-words .last .1 .1 .0 in
+    let ready =
+    c .before .before .before .before .before .before .before .before .before .before .before .before .before .before .before .before .pre in
+    let words =
+    c .before .before .before .before .before .before .before .before .before .before .read-words .last .1 .1 .0 in
     let read = c .before .before .before .before .before .before .before .before .before .before .read-words .ensures in
     let marked = c .before .before .before .before .before .before .before .mark-classes .last .1 .1 .1 .1 .1 .0 in
     let kept = c .before .before .before .before .before .before .before .mark-classes .kept .1 .1 .1 .1 .1 .0 in
-    let said = c .before .before .before .find-fault .ensures (fileLayout board) (file-pieces ch board words (now (a .scratch)) (a .tracks) (a .count) ready read) (file-marks ch board words (now (a .scratch)) (a .tracks) (a .count) ready read marked kept (c .before .before .before .before .before .before .before .mark-classes .ensures)) in
-    found-fault (a .tracks) (finding ch (fileLayout board)) (c .before .fault .given .0 .0) (sym (c .before .fault .given .1) ∙ said)
+    let said = c .before .before .before .find-fault .ensures (fileLayout board)
+    (file-pieces ch board words (now (a .scratch)) (a .tracks) (a .count) ready read)
+    (file-marks ch board words (now (a .scratch)) (a .tracks) (a .count) ready read marked kept
+    (c .before .before .before .before .before .before .before .mark-classes .ensures)) in
+    found-fault (a .tracks) (finding ch (fileLayout board)) (c .before .fault .given .0 .0)
+    (sym (c .before .fault .given .1) ∙ said)
 
 pub judge-pieces-spec : {M : Type 1} → statement M
 judge-pieces-spec =
     tie.close
-    (tie.spec
-    read-words-requires
-    mark-classes-requires
-    find-fault-requires
-    enum-told
-    enum-known-fault
-    same-length
-    returns
-    same-length-2
-    returns-2)
+    (tie.spec read-words-requires mark-classes-requires find-fault-requires enum-told (λ c. search needs)
+    (λ c. search needs) returns (λ c. search needs) returns-2)

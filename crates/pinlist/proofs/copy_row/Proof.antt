@@ -1,5 +1,5 @@
--- `pinlist::copy_row` meets its contract. The loop's invariant: the first `i` numbers of the row stand at the front of the lent one, whose length stays.
--- What is left of the row falls; at its end the whole row is the front.
+-- `pinlist::copy_row` meets its contract. The loop's invariant: the first `i` numbers of the row stand at the front of
+-- the lent one, whose length stays. What is left of the row falls; at its end the whole row is the front.
 use Prim.Native.Nat.{_≤_, _-_}
 use native.Mathlib.Omega.{arith}
 use mathlib.Core.Path.{_≡_, refl, _∙_}
@@ -19,28 +19,15 @@ abbrev μ-loop : tie.MeasureT-loop
 loop-holds : tie.Need-loop-holds Inv-loop μ-loop
 loop-holds c = (omega arith, refl, refl)
 
-mul-to : tie.Need-mul-to Inv-loop μ-loop
-mul-to c = search needs
-
-shared-slice-read-to : tie.Need-shared-slice-read-to Inv-loop μ-loop
-shared-slice-read-to c = omega arith
-
-mul-to-2 : tie.Need-mul-to-2 Inv-loop μ-loop
-mul-to-2 c = search needs
-
-slice-write-to : tie.Need-slice-write-to Inv-loop μ-loop
-slice-write-to c = omega arith
-
-add-i : tie.Need-add-i Inv-loop μ-loop
-add-i c = omega arith
-
-loop-less : tie.Need-loop-less Inv-loop μ-loop
-loop-less c = omega arith
-
 loop-again : tie.Need-loop-again Inv-loop μ-loop
 loop-again c =
-    let loop = c .before .before .loop in
-    (omega arith, length-set (loop .to) (loop .i) _ ∙ loop .inv .1, copied-next _ _ (loop .i) 0 (c .before .loop-test .taken) (c .before .before .before .pre) (loop .inv .2))
+    let loop = c .before .before .loop in (
+      omega arith,
+      length-set (loop .to) (loop .i) _
+          ∙ loop .inv .1,
+      copied-next _ _ (loop .i) 0 (c .before .loop-test .taken) (c .before .before .before .pre)
+          (loop .inv .2),
+    )
 
 same-length : tie.Need-same-length Inv-loop μ-loop
 same-length c = c .before .loop .inv .1
@@ -51,16 +38,5 @@ returns c = copied-whole _ _ (c .before .loop .i) (c .loop-test .left) (c .befor
 pub copy-row-spec : {M : Type 1} → statement M
 copy-row-spec =
     tie.close
-    (tie.spec
-    Inv-loop
-    μ-loop
-    loop-holds
-    mul-to
-    shared-slice-read-to
-    mul-to-2
-    slice-write-to
-    add-i
-    loop-less
-    loop-again
-    same-length
-    returns)
+    (tie.spec Inv-loop μ-loop loop-holds (λ c. search needs) (λ c. omega arith) (λ c. search needs) (λ c. omega arith)
+    (λ c. omega arith) (λ c. omega arith) loop-again same-length returns)

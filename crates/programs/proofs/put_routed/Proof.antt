@@ -1,4 +1,5 @@
--- `put_routed` meets its contract: rows that escape have bounds (`bounds-told`) and 511 tracks have a blank (`blank-told`), so neither refusal comes, and the figures are those of the channel.
+-- `put_routed` meets its contract: rows that escape have bounds (`bounds-told`) and 511 tracks have a blank
+-- (`blank-told`), so neither refusal comes, and the figures are those of the channel.
 use Prim.Native.Nat.{ℕ}
 use native.Mathlib.Omega.{arith}
 use mathlib.Core.Path.{_≡_, sym, _∙_}
@@ -15,58 +16,21 @@ use Rattle.programs.proofs.put_routed.Tie as tie
 abbrev channel : tie.Start → Channel
 channel c = rows (now (c .args .top)) (now (c .args .bot))
 
-bounds-requires : tie.Need-bounds-requires
-bounds-requires c κs = search needs
-
-enum-known-refusal : tie.Need-enum-known-refusal
-enum-known-refusal c = search needs
-
-put-refusal-requires : tie.Need-put-refusal-requires
-put-refusal-requires c κs = search needs
-
-enum-known-density : tie.Need-enum-known-density
-enum-known-density c = search needs
-
-blank-requires : tie.Need-blank-requires
-blank-requires c κs = search needs
-
-enum-known-refusal-2 : tie.Need-enum-known-refusal-2
-enum-known-refusal-2 c = search needs
-
-put-refusal-requires-2 : tie.Need-put-refusal-requires-2
-put-refusal-requires-2 c κs = search needs
-
-enum-known-blank : tie.Need-enum-known-blank
-enum-known-blank c = search needs
-
-cast-t23 : tie.Need-cast-t23
-cast-t23 c = search needs
-
-put-listing-requires : tie.Need-put-listing-requires
-put-listing-requires c κs = search needs
-
-same-length : tie.Need-same-length
-same-length c = search needs
-
 returns : tie.Need-returns
 returns c =
     let refused = c .before .before .before .before .before in
     let told = refused .before .before in
     let start = told .before .before .before .before in
-    absurd (let same = sym (told .bounds .ensures ∙ bounds-told _ (start .pre .0)) ∙ refused .refusal .given .1 in let z : _≡_ {A = ℕ} 0 1 = cc in omega arith)
-
-same-length-2 : tie.Need-same-length-2
-same-length-2 c = search needs
+    let same = sym (told .bounds .ensures ∙ bounds-told _ (start .pre .0)) ∙ refused .refusal .given .1 in
+    absurd (let z : _≡_ {A = ℕ} 0 1 = cc in omega arith)
 
 returns-2 : tie.Need-returns-2
 returns-2 c =
     let refused = c .before .before .before .before .before in
     let told = refused .before .before in
     let start = told .before .before .before .before .before .before .before .before in
-    absurd (let same = sym (told .blank .ensures ∙ blank-told _ (start .pre .1)) ∙ refused .refusal2 .given .1 in let z : _≡_ {A = ℕ} 0 1 = cc in omega arith)
-
-same-length-3 : tie.Need-same-length-3
-same-length-3 c = search needs
+    let same = sym (told .blank .ensures ∙ blank-told _ (start .pre .1)) ∙ refused .refusal2 .given .1 in
+    absurd (let z : _≡_ {A = ℕ} 0 1 = cc in omega arith)
 
 returns-3 : tie.Need-returns-3
 returns-3 c =
@@ -87,20 +51,6 @@ returns-3 c =
 pub put-routed-spec : {M : Type 1} → statement M
 put-routed-spec =
     tie.close
-    (tie.spec
-    bounds-requires
-    enum-known-refusal
-    put-refusal-requires
-    enum-known-density
-    blank-requires
-    enum-known-refusal-2
-    put-refusal-requires-2
-    enum-known-blank
-    cast-t23
-    put-listing-requires
-    same-length
-    returns
-    same-length-2
-    returns-2
-    same-length-3
-    returns-3)
+    (tie.spec (λ c κs. search needs) (λ c. search needs) (λ c κs. search needs) (λ c. search needs)
+    (λ c κs. search needs) (λ c. search needs) (λ c κs. search needs) (λ c. search needs) (λ c. search needs)
+    (λ c κs. search needs) (λ c. search needs) returns (λ c. search needs) returns-2 (λ c. search needs) returns-3)

@@ -1,51 +1,38 @@
--- The loop looks at each number from `from` on; what is left of the row falls. Nothing is said of the answer.
+-- `is_kept` meets its contract. The loop's invariant: the row is kept from `from` on exactly if it is kept from i on.
+-- What is left of the row falls.
 use Prim.Native.Nat.{_-_}
+use mathlib.Core.Path.{_≡_, refl, sym, _∙_}
 use lib.ListN.{length}
 use borrow.Author.Needs.{needs}
+use Rattle.cases.specs.Cases.{isKept}
+use Rattle.cases.specs.CaseLaws.{kept-next, not-kept, kept-end}
 use Rattle.cases.proofs.output.is_kept.Statement.{statement}
 use Rattle.cases.proofs.output.is_kept.Tie as tie
 
 abbrev Inv-loop : tie.InvT-loop
-Inv-loop row from i₀ i = Unit {0}
+Inv-loop row from i₀ i = isKept row from ≡ isKept row i
 
 abbrev μ-loop : tie.MeasureT-loop
 μ-loop row from i₀ i = length row - i
 
 loop-holds : tie.Need-loop-holds Inv-loop μ-loop
-loop-holds c = tt
-
-mul-if1 : tie.Need-mul-if1 Inv-loop μ-loop
-mul-if1 c = search needs
-
-shared-slice-read-if1 : tie.Need-shared-slice-read-if1 Inv-loop μ-loop
-shared-slice-read-if1 c = search needs
+loop-holds c = refl
 
 returns : tie.Need-returns Inv-loop μ-loop
-returns c = search needs
-
-add-i : tie.Need-add-i Inv-loop μ-loop
-add-i c = search needs
-
-loop-less : tie.Need-loop-less Inv-loop μ-loop
-loop-less c = search needs
+returns c =
+    let l = c .before .before .before in
+    sym (l .loop .inv ∙ not-kept _ (l .loop .i) (c .before .before .loop-test .taken) (c .if1 .taken))
 
 loop-again : tie.Need-loop-again Inv-loop μ-loop
-loop-again c = tt
+loop-again c =
+    let l = c .before .before .before in
+    l .loop .inv ∙ kept-next _ (l .loop .i) (c .before .before .loop-test .taken) (c .if1 .left)
 
 returns-2 : tie.Need-returns-2 Inv-loop μ-loop
-returns-2 c = search needs
+returns-2 c = sym (c .before .loop .inv ∙ kept-end _ (c .before .loop .i) (c .loop-test .left))
 
 pub is-kept-spec : {M : Type 1} → statement M
 is-kept-spec =
     tie.close
-    (tie.spec
-    Inv-loop
-    μ-loop
-    loop-holds
-    mul-if1
-    shared-slice-read-if1
-    returns
-    add-i
-    loop-less
-    loop-again
-    returns-2)
+    (tie.spec Inv-loop μ-loop loop-holds (λ c. search needs) (λ c. search needs) returns (λ c. search needs)
+    (λ c. search needs) loop-again returns-2)

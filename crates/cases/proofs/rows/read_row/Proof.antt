@@ -1,64 +1,43 @@
--- The row keeps its length; what is left of it falls. Nothing is said of what it then holds.
+-- `read_row` meets its contract. The loop's invariant: the first i numbers are stored, the others are as they were.
+-- What is left of the row falls.
+use native.Mathlib.Omega.{arith}
 use Prim.Native.Nat.{_-_}
-use mathlib.Core.Path.{_≡_}
-use lib.ListN.{length}
+use mathlib.Core.Path.{_≡_, refl, _∙_, ap}
+use lib.ListN.{length, set, take, length-set}
+use denote.Ref.{now}
 use borrow.Author.Needs.{needs}
+use Rattle.lists.specs.Lists.{overlay}
+use Rattle.cases.specs.Cases.{numbersAt}
+use Rattle.cases.specs.CaseLaws.{numbers-next, numbers-whole}
 use Rattle.cases.proofs.rows.read_row.Statement.{statement}
 use Rattle.cases.proofs.rows.read_row.Tie as tie
 
 abbrev Inv-loop : tie.InvT-loop
-Inv-loop bytes at row₀ i₀ row i = length row ≡ length row₀
+Inv-loop bytes at row₀ i₀ row i =
+    (row ≡ overlay (take i (numbersAt bytes at (length row₀))) row₀) × (length row ≡ length row₀)
 
 abbrev μ-loop : tie.MeasureT-loop
 μ-loop bytes at row₀ i₀ row i = length row₀ - i
 
 loop-holds : tie.Need-loop-holds Inv-loop μ-loop
-loop-holds c = search needs
-
-mul-number-at : tie.Need-mul-number-at Inv-loop μ-loop
-mul-number-at c = search needs
-
-add-number-at : tie.Need-add-number-at Inv-loop μ-loop
-add-number-at c = search needs
-
-number-at-requires : tie.Need-number-at-requires Inv-loop μ-loop
-number-at-requires c κs = search needs
-
-mul-row : tie.Need-mul-row Inv-loop μ-loop
-mul-row c = search needs
-
-slice-write-row : tie.Need-slice-write-row Inv-loop μ-loop
-slice-write-row c = search needs
-
-add-i : tie.Need-add-i Inv-loop μ-loop
-add-i c = search needs
-
-loop-less : tie.Need-loop-less Inv-loop μ-loop
-loop-less c = search needs
+loop-holds c = (refl, refl)
 
 loop-again : tie.Need-loop-again Inv-loop μ-loop
-loop-again c = search needs
-
-same-length : tie.Need-same-length Inv-loop μ-loop
-same-length c = search needs
+loop-again c =
+    let l = c .before .before in
+    let a = l .before .before .before .args in
+    let number = ap (set (l .loop .row) (l .loop .i)) (c .number-at .ensures .0) in
+    let stored = numbers-next (now (a .bytes)) (a .at) (now (a .row)) (l .loop .i) (omega arith) (l .loop .inv .0) in
+    (number ∙ stored, simp length-set (l .loop .inv .1))
 
 returns : tie.Need-returns Inv-loop μ-loop
-returns c = search needs
+returns c =
+    let a = c .before .before .before .before .args in
+    numbers-whole (now (a .bytes)) (a .at) (now (a .row)) (c .before .loop .i) (omega arith) (c .before .loop .inv .0)
 
 pub read-row-spec : {M : Type 1} → statement M
 read-row-spec =
     tie.close
-    (tie.spec
-    Inv-loop
-    μ-loop
-    loop-holds
-    mul-number-at
-    add-number-at
-    number-at-requires
-    mul-row
-    slice-write-row
-    add-i
-    loop-less
-    loop-again
-    same-length
+    (tie.spec Inv-loop μ-loop loop-holds (λ c. search needs) (λ c. search needs) (λ c κs. search needs)
+    (λ c. search needs) (λ c. search needs) (λ c. search needs) (λ c. search needs) loop-again (λ c. search needs)
     returns)

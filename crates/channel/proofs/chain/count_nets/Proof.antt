@@ -1,5 +1,6 @@
--- `channel::chain::count_nets` meets its contract. The loop's invariant: n is at most 511, and the count is that of the numbers from 1 to n that have a first column.
--- What falls is the numbers that are left, 511 less n. `filled-one-more` and `filled-no-more` take the count over number n + 1. Assumes nothing.
+-- `channel::chain::count_nets` meets its contract. The loop's invariant: n is at most 511, and the count is that of the
+-- numbers from 1 to n that have a first column. What falls is the numbers that are left, 511 less n. `filled-one-more`
+-- and `filled-no-more` take the count over number n + 1. Assumes nothing.
 use mathlib.Core.Path.{_≡_, sym, _∙_, ap}
 use Prim.Native.Nat.{_≤_, _-_}
 use native.Mathlib.Omega.{arith}
@@ -18,31 +19,16 @@ abbrev μ-loop : tie.MeasureT-loop
 loop-holds : tie.Need-loop-holds Inv-loop μ-loop
 loop-holds c = (omega arith, sym (filled-none (c .args .first .now)))
 
-add-n : tie.Need-add-n Inv-loop μ-loop
-add-n c = omega arith
-
-mul-if1 : tie.Need-mul-if1 Inv-loop μ-loop
-mul-if1 c = omega arith
-
-element-copy-out-if1 : tie.Need-element-copy-out-if1 Inv-loop μ-loop
-element-copy-out-if1 c = omega arith
-
 add-count : tie.Need-add-count Inv-loop μ-loop
 add-count c =
     let l = c .before .before .before in
     omega (arith, filled-few (l .before .args .first .now) (l .loop .n))
-
-loop-less : tie.Need-loop-less Inv-loop μ-loop
-loop-less c = omega arith
 
 loop-again : tie.Need-loop-again Inv-loop μ-loop
 loop-again c =
     let l = c .before .before .before in
     let more = filled-one-more (l .before .args .first .now) (l .loop .n) (c .if1 .taken) in
     omega arith
-
-loop-less-2 : tie.Need-loop-less-2 Inv-loop μ-loop
-loop-less-2 c = omega arith
 
 loop-again-2 : tie.Need-loop-again-2 Inv-loop μ-loop
 loop-again-2 c =
@@ -58,16 +44,5 @@ returns c =
 pub count-nets-spec : {M : Type 1} → statement M
 count-nets-spec =
     tie.close
-    (tie.spec
-    Inv-loop
-    μ-loop
-    loop-holds
-    add-n
-    mul-if1
-    element-copy-out-if1
-    add-count
-    loop-less
-    loop-again
-    loop-less-2
-    loop-again-2
-    returns)
+    (tie.spec Inv-loop μ-loop loop-holds (λ c. omega arith) (λ c. omega arith) (λ c. omega arith) add-count
+    (λ c. omega arith) loop-again (λ c. omega arith) loop-again-2 returns)

@@ -1,5 +1,7 @@
--- `channel::chain::deeper` meets its contract. The loop's invariant: i is at most the width, and `new` holds for each number one net more than the greatest of `old` at the nets directly below it in the first i columns.
--- What falls is the columns that are left. `deeper-step`, `deeper-enough` and `deeper-no-step` take it over column i + 1, by whether that puts a net above another and whether `new` has that depth yet. Assumes nothing.
+-- `channel::chain::deeper` meets its contract. The loop's invariant: i is at most the width, and `new` holds for each
+-- number one net more than the greatest of `old` at the nets directly below it in the first i columns. What falls is
+-- the columns that are left. `deeper-step`, `deeper-enough` and `deeper-no-step` take it over column i + 1, by whether
+-- that puts a net above another and whether `new` has that depth yet. Assumes nothing.
 use mathlib.Core.Path.{_≡_, _∙_, ap}
 use mathlib.Core.Logic.{⊎-elim}
 use Prim.Native.Nat.{ℕ, _+_, _≤_, _-_}
@@ -10,7 +12,8 @@ use Rattle.channel.specs.Channel.{Channel, highestNet, rows}
 use Rattle.channel.specs.Constraints.{Above}
 use Rattle.channel.specs.Spans.{each512}
 use Rattle.channel.specs.Depths.{deeperOver}
-use Rattle.channel.specs.DepthLaws.{top-low, bot-low, stands-above, top-none, bot-none, one-net, deeper-none, deeper-no-step, deeper-step, deeper-enough}
+use Rattle.channel.specs.DepthLaws.{top-low, bot-low, stands-above, top-none, bot-none, one-net, deeper-none}
+use Rattle.channel.specs.DepthLaws.{deeper-no-step, deeper-step, deeper-enough}
 use Rattle.channel.proofs.chain.deeper.Statement.{statement}
 use Rattle.channel.proofs.chain.deeper.Tie as tie
 
@@ -33,26 +36,14 @@ module _ (c : tie.Then3 Inv-loop μ-loop) where
   lower-low : getD (at-loop .before .args .bot .now) (at-loop .loop .i) 0 ≤ highestNet
   lower-low = bot-low (channel (at-loop .before)) (at-loop .loop .i) (at-loop .before .pre .0)
 
-  stands : Above (channel (at-loop .before)) (getD (at-loop .before .args .top .now) (at-loop .loop .i) 0) (getD (at-loop .before .args .bot .now) (at-loop .loop .i) 0) (at-loop .loop .i + 1)
-  stands = stands-above (channel (at-loop .before)) (at-loop .loop .i) (c .before .before .if1 .taken) (eqb-false _ _ (not-true _ (c .before .if2 .taken))) (eqb-false _ _ (not-true _ (c .if3 .taken)))
+  stands : Above (channel (at-loop .before)) (getD (at-loop .before .args .top .now) (at-loop .loop .i) 0)
+      (getD (at-loop .before .args .bot .now) (at-loop .loop .i) 0) (at-loop .loop .i + 1)
+  stands =
+      stands-above (channel (at-loop .before)) (at-loop .loop .i) (c .before .before .if1 .taken)
+      (eqb-false _ _ (not-true _ (c .before .if2 .taken))) (eqb-false _ _ (not-true _ (c .if3 .taken)))
 
 loop-holds : tie.Need-loop-holds Inv-loop μ-loop
 loop-holds c = (omega arith, deeper-none (channel c) (c .args .old .now))
-
-mul-a : tie.Need-mul-a Inv-loop μ-loop
-mul-a c = omega arith
-
-shared-slice-read-a : tie.Need-shared-slice-read-a Inv-loop μ-loop
-shared-slice-read-a c = omega arith
-
-mul-b : tie.Need-mul-b Inv-loop μ-loop
-mul-b c = omega arith
-
-shared-slice-read-b : tie.Need-shared-slice-read-b Inv-loop μ-loop
-shared-slice-read-b c = omega arith
-
-add-i : tie.Need-add-i Inv-loop μ-loop
-add-i c = omega arith
 
 cast-n : tie.Need-cast-n Inv-loop μ-loop
 cast-n c = omega (arith, upper-low c)
@@ -67,7 +58,12 @@ element-copy-out-under : tie.Need-element-copy-out-under Inv-loop μ-loop
 element-copy-out-under c = omega (arith, lower-low c)
 
 add-under : tie.Need-add-under Inv-loop μ-loop
-add-under c = omega (arith, at-loop (c .before) .before .pre .1 (getD (at-loop (c .before) .before .args .bot .now) (at-loop (c .before) .loop .i) 0))
+add-under c =
+    omega (
+      arith,
+      at-loop (c .before) .before .pre .1
+          (getD (at-loop (c .before) .before .args .bot .now) (at-loop (c .before) .loop .i) 0),
+    )
 
 mul-if4 : tie.Need-mul-if4 Inv-loop μ-loop
 mul-if4 c = omega (arith, upper-low (c .before))
@@ -81,24 +77,21 @@ mul-new c = omega (arith, upper-low (c .before .before))
 array-write-new : tie.Need-array-write-new Inv-loop μ-loop
 array-write-new c = omega (arith, upper-low (c .before .before))
 
-loop-less : tie.Need-loop-less Inv-loop μ-loop
-loop-less c = omega arith
-
 loop-again : tie.Need-loop-again Inv-loop μ-loop
 loop-again c =
-    let l = at-loop (c .before .before) in
-    (omega arith, deeper-step (channel (l .before)) (l .before .args .old .now) (l .loop .i) (stands (c .before .before)) (upper-low (c .before .before)) (l .loop .inv .1) (c .if4 .taken))
-
-loop-less-2 : tie.Need-loop-less-2 Inv-loop μ-loop
-loop-less-2 c = omega arith
+    let l = at-loop (c .before .before) in (
+      omega arith,
+      deeper-step (channel (l .before)) (l .before .args .old .now) (l .loop .i)
+          (stands (c .before .before)) (upper-low (c .before .before)) (l .loop .inv .1) (c .if4 .taken),
+    )
 
 loop-again-2 : tie.Need-loop-again-2 Inv-loop μ-loop
 loop-again-2 c =
-    let l = at-loop (c .before .before) in
-    (omega arith, deeper-enough (channel (l .before)) (l .before .args .old .now) (l .loop .i) (stands (c .before .before)) (upper-low (c .before .before)) (l .loop .inv .1) (c .if4 .left))
-
-loop-less-3 : tie.Need-loop-less-3 Inv-loop μ-loop
-loop-less-3 c = omega arith
+    let l = at-loop (c .before .before) in (
+      omega arith,
+      deeper-enough (channel (l .before)) (l .before .args .old .now) (l .loop .i)
+          (stands (c .before .before)) (upper-low (c .before .before)) (l .loop .inv .1) (c .if4 .left),
+    )
 
 loop-again-3 : tie.Need-loop-again-3 Inv-loop μ-loop
 loop-again-3 c =
@@ -107,7 +100,9 @@ loop-again-3 c =
     let i = l .loop .i in (
       omega arith,
       l .loop .inv .1 ∙ deeper-no-step ch (l .before .args .old .now) i
-          (⊎-elim (λ w. one-net ch i (eqb-true _ _ (not-false _ (w .2 .left)))) (⊎-elim (λ w. bot-none ch i (eqb-true _ _ (not-false _ (w .1 .left)))) (λ w. top-none ch i (w .left))) (c .if1 .came)),
+          (⊎-elim (λ w. one-net ch i (eqb-true _ _ (not-false _ (w .2 .left))))
+          (⊎-elim (λ w. bot-none ch i (eqb-true _ _ (not-false _ (w .1 .left)))) (λ w. top-none ch i (w .left)))
+          (c .if1 .came)),
     )
 
 returns : tie.Need-returns Inv-loop μ-loop
@@ -119,28 +114,7 @@ returns c =
 pub deeper-spec : {M : Type 1} → statement M
 deeper-spec =
     tie.close
-    (tie.spec
-    Inv-loop
-    μ-loop
-    loop-holds
-    mul-a
-    shared-slice-read-a
-    mul-b
-    shared-slice-read-b
-    add-i
-    cast-n
-    cast-under
-    mul-under
-    element-copy-out-under
-    add-under
-    mul-if4
-    array-read-if4
-    mul-new
-    array-write-new
-    loop-less
-    loop-again
-    loop-less-2
-    loop-again-2
-    loop-less-3
-    loop-again-3
+    (tie.spec Inv-loop μ-loop loop-holds (λ c. omega arith) (λ c. omega arith) (λ c. omega arith) (λ c. omega arith)
+    (λ c. omega arith) cast-n cast-under mul-under element-copy-out-under add-under mul-if4 array-read-if4 mul-new
+    array-write-new (λ c. omega arith) loop-again (λ c. omega arith) loop-again-2 (λ c. omega arith) loop-again-3
     returns)

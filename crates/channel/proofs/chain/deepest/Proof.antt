@@ -1,5 +1,6 @@
--- `channel::chain::deepest` meets its contract. The loop's invariant: n is at most 511, and `most` is the greatest depth of the numbers from 1 to n whose first column is before their last.
--- What falls is the numbers that are left, 511 less n. `deepest-one-more` and `deepest-no-more` take it over number n + 1. Assumes nothing.
+-- `channel::chain::deepest` meets its contract. The loop's invariant: n is at most 511, and `most` is the greatest
+-- depth of the numbers from 1 to n whose first column is before their last. What falls is the numbers that are left,
+-- 511 less n. `deepest-one-more` and `deepest-no-more` take it over number n + 1. Assumes nothing.
 use mathlib.Core.Logic.{⊎-elim}
 use borrow.Author.Tests.{ltb-true, ltb-false}
 use mathlib.Core.Path.{_≡_, sym, _∙_, ap}
@@ -20,44 +21,12 @@ abbrev μ-loop : tie.MeasureT-loop
 loop-holds : tie.Need-loop-holds Inv-loop μ-loop
 loop-holds c = (omega arith, sym (deepest-none (c .args .first .now) (c .args .last .now) (c .args .depth .now)))
 
-add-n : tie.Need-add-n Inv-loop μ-loop
-add-n c = omega arith
-
-mul-if1 : tie.Need-mul-if1 Inv-loop μ-loop
-mul-if1 c = omega arith
-
-element-copy-out-if1 : tie.Need-element-copy-out-if1 Inv-loop μ-loop
-element-copy-out-if1 c = omega arith
-
-mul-if1-2 : tie.Need-mul-if1-2 Inv-loop μ-loop
-mul-if1-2 c = omega arith
-
-element-copy-out-if1-2 : tie.Need-element-copy-out-if1-2 Inv-loop μ-loop
-element-copy-out-if1-2 c = omega arith
-
-mul-if2 : tie.Need-mul-if2 Inv-loop μ-loop
-mul-if2 c = omega arith
-
-element-copy-out-if2 : tie.Need-element-copy-out-if2 Inv-loop μ-loop
-element-copy-out-if2 c = omega arith
-
-mul-most : tie.Need-mul-most Inv-loop μ-loop
-mul-most c = omega arith
-
-element-copy-out-most : tie.Need-element-copy-out-most Inv-loop μ-loop
-element-copy-out-most c = omega arith
-
-loop-less : tie.Need-loop-less Inv-loop μ-loop
-loop-less c = omega arith
-
 loop-again : tie.Need-loop-again Inv-loop μ-loop
 loop-again c =
     let l = c .before .before .before .before .before .before .before in
-    let more = deepest-one-more (l .before .args .first .now) (l .before .args .last .now) (l .before .args .depth .now) (l .loop .n) (c .before .before .before .if1 .taken) in
+    let more = deepest-one-more (l .before .args .first .now) (l .before .args .last .now) (l .before .args .depth .now)
+    (l .loop .n) (c .before .before .before .if1 .taken) in
     omega (arith, ltb-true)
-
-loop-less-2 : tie.Need-loop-less-2 Inv-loop μ-loop
-loop-less-2 c = omega arith
 
 loop-again-2 : tie.Need-loop-again-2 Inv-loop μ-loop
 loop-again-2 c =
@@ -77,21 +46,6 @@ returns c =
 pub deepest-spec : {M : Type 1} → statement M
 deepest-spec =
     tie.close
-    (tie.spec
-    Inv-loop
-    μ-loop
-    loop-holds
-    add-n
-    mul-if1
-    element-copy-out-if1
-    mul-if1-2
-    element-copy-out-if1-2
-    mul-if2
-    element-copy-out-if2
-    mul-most
-    element-copy-out-most
-    loop-less
-    loop-again
-    loop-less-2
-    loop-again-2
-    returns)
+    (tie.spec Inv-loop μ-loop loop-holds (λ c. omega arith) (λ c. omega arith) (λ c. omega arith) (λ c. omega arith)
+    (λ c. omega arith) (λ c. omega arith) (λ c. omega arith) (λ c. omega arith) (λ c. omega arith) (λ c. omega arith)
+    loop-again (λ c. omega arith) loop-again-2 returns)

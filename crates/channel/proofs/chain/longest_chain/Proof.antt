@@ -1,5 +1,7 @@
--- `channel::chain::longest_chain` meets its contract. The loop's invariant: after as many rounds as `rounds` says, at most one more than there are nets, `depth` holds the depths counted that far.
--- What falls is the rounds that are left. `deeper-depths` makes a round one net of fuel, `filled-nets` and `deepest-spanning` turn what is counted into the definition of the chain, and `chain-counts` and `chain-overruns` close the two returns. Assumes nothing.
+-- `channel::chain::longest_chain` meets its contract. The loop's invariant: after as many rounds as `rounds` says, at
+-- most one more than there are nets, `depth` holds the depths counted that far. What falls is the rounds that are left.
+-- `deeper-depths` makes a round one net of fuel, `filled-nets` and `deepest-spanning` turn what is counted into the
+-- definition of the chain, and `chain-counts` and `chain-overruns` close the two returns. Assumes nothing.
 use mathlib.Core.Path.{_≡_, sym, _∙_, ap}
 use Prim.Native.Nat.{ℕ, suc, _+_, _≤_, _-_}
 use native.Mathlib.Omega.{arith}
@@ -10,12 +12,14 @@ use Rattle.channel.specs.Channel.{Channel, width, highestNet, nets, rows
 use Rattle.channel.specs.Depths.{filledTo, deeperOver}
 use Rattle.channel.specs.ChainLaws.{deepest, chain-counts, chain-overruns}
 use Rattle.channel.specs.Spans.{each512, depths}
-use Rattle.channel.specs.DepthLaws.{filled-few, filled-nets, depths-none, depths≤fuel, deeper-depths, deepest-spanning}
+use Rattle.channel.specs.CountLaws.{nets-few}
+use Rattle.channel.specs.DepthLaws.{filled-nets, depths-none, depths≤fuel, deeper-depths, deepest-spanning}
 use Rattle.channel.proofs.chain.longest_chain.Statement.{statement}
 use Rattle.channel.proofs.chain.longest_chain.Tie as tie
 
 abbrev Inv-loop : tie.InvT-loop
-Inv-loop top bot first last nets depth₀ rounds₀ depth rounds = (rounds ≤ nets + 1) × (depth ≡ depths rounds (rows top bot))
+Inv-loop top bot first last nets depth₀ rounds₀ depth rounds =
+    (rounds ≤ nets + 1) × (depth ≡ depths rounds (rows top bot))
 
 abbrev μ-loop : tie.MeasureT-loop
 μ-loop top bot first last nets depth₀ rounds₀ depth rounds = nets + 1 - rounds
@@ -32,10 +36,12 @@ module _ (c : tie.At-loop Inv-loop μ-loop) where
   counted = c .before .count-nets .result
 
   counts-nets : counted ≡ length (nets (channel start))
-  counts-nets = c .before .count-nets .ensures ∙ (ap (λ (l : List ℕ). filledTo l highestNet) (start .pre .1) ∙ filled-nets (channel start) (start .pre .0))
+  counts-nets =
+      c .before .count-nets .ensures ∙ (ap (λ (l : List ℕ). filledTo l highestNet) (start .pre .1)
+      ∙ filled-nets (channel start) (start .pre .0))
 
   few-nets : counted ≤ highestNet
-  few-nets = let few = filled-few (start .args .first .now) highestNet in let e = c .before .count-nets .ensures in omega arith
+  few-nets = omega (arith, counts-nets, nets-few (channel start))
 
 -- after the loop the greatest depth is that of the chain's definition
 module _ (c : tie.After-deepest Inv-loop μ-loop) where
@@ -61,20 +67,24 @@ loop-holds c = (omega arith, depths-none (channel (c .before .before .before)))
 
 deeper-requires : tie.Need-deeper-requires Inv-loop μ-loop
 deeper-requires c κs =
-    let l = c .before .before in
-    (start l .pre .0, λ n. let few = few-nets l in let e = ap (λ (d : List ℕ). getD d n 0) (l .loop .inv .1) in omega (arith, depths≤fuel (channel (start l)) (l .loop .rounds) n))
+    let l = c .before .before in (
+      start l .pre .0,
+      λ n. let few = few-nets l in let e = ap (λ (d : List ℕ). getD d n 0) (l .loop .inv .1) in
+          omega (arith, depths≤fuel (channel (start l)) (l .loop .rounds) n),
+    )
 
 add-rounds : tie.Need-add-rounds Inv-loop μ-loop
 add-rounds c = omega (arith, few-nets (c .before .before .before))
 
-loop-less : tie.Need-loop-less Inv-loop μ-loop
-loop-less c = omega arith
-
 loop-again : tie.Need-loop-again Inv-loop μ-loop
 loop-again c =
     let l = c .before .before .before in
-    let ch = channel (start l) in
-    (omega arith, c .deeper .ensures ∙ (ap (λ (d : List ℕ). each512 (deeperOver ch d (width ch))) (l .loop .inv .1) ∙ (deeper-depths ch (start l .pre .0) (l .loop .rounds) ∙ ap (λ (f : ℕ). depths f ch) (sym (add-one (l .loop .rounds))))))
+    let ch = channel (start l) in (
+      omega arith,
+      c .deeper .ensures ∙ (ap (λ (d : List ℕ). each512 (deeperOver ch d (width ch))) (l .loop .inv .1)
+          ∙ (deeper-depths ch (start l .pre .0) (l .loop .rounds)
+          ∙ ap (λ (f : ℕ). depths f ch) (sym (add-one (l .loop .rounds))))),
+    )
 
 deepest-requires : tie.Need-deepest-requires Inv-loop μ-loop
 deepest-requires c κs = tt
@@ -94,15 +104,5 @@ returns-2 c =
 pub longest-chain-spec : {M : Type 1} → statement M
 longest-chain-spec =
     tie.close
-    (tie.spec
-    Inv-loop
-    μ-loop
-    count-nets-requires
-    loop-holds
-    deeper-requires
-    add-rounds
-    loop-less
-    loop-again
-    deepest-requires
-    returns
-    returns-2)
+    (tie.spec Inv-loop μ-loop count-nets-requires loop-holds deeper-requires add-rounds (λ c. omega arith) loop-again
+    deepest-requires returns returns-2)

@@ -1,16 +1,21 @@
--- `channel::density::greatest_density` meets its contract. The loop's invariant: after i columns `carried` counts the nets over column i and the next,
--- and `most` is the density of the first i columns. The columns left fall. At the end the first i columns are all of them (`density-whole`).
-use Prim.Native.Nat.{_+_, _-_, _≤_, _<_}
+-- `channel::density::greatest_density` meets its contract. The loop's invariant: after i columns `carried` counts the
+-- nets over column i and the next, and `most` is the density of the first i columns. The columns left fall. At the end
+-- the first i columns are all of them (`density-whole`).
+use Prim.Native.Nat.{_+_, _-_, _≤_}
 use native.Mathlib.Omega.{arith}
 use mathlib.Core.Path.{_≡_, sym, _∙_, ap}
 use mathlib.Core.Logic.{⊎-elim}
+use mathlib.Core.List.{map}
 use lib.ListN.{length, getD}
 use Rattle.channel.specs.Channel.{Channel, width, rows}
 use Rattle.channel.specs.Starts.{startingList}
-use Rattle.channel.specs.StartLaws.{ColumnPins, starting-among, ending-among}
+use Rattle.channel.specs.Spans.{firsts, lasts}
+use Rattle.channel.specs.SpanLaws.{plain-typed}
+use Rattle.channel.specs.StartLaws.{ColumnPins, column-pins, starting-among, ending-among}
 use Rattle.channel.specs.DensityLaws.{netsOver}
-use Rattle.channel.specs.DepthLaws.{at-next, top-low, bot-low}
-use Rattle.channel.specs.SweepLaws.{carriedOn, over-enters, over-leaves, none-carried, over-few, densityTo, density-none, density-more, density-whole}
+use Rattle.channel.specs.DepthLaws.{top-low, bot-low}
+use Rattle.channel.specs.SweepLaws.{carriedOn, over-enters, over-leaves, none-carried, over-few, densityTo}
+use Rattle.channel.specs.SweepLaws.{density-none, density-more, density-whole}
 use Rattle.channel.proofs.density.greatest_density.Statement.{statement}
 use Rattle.channel.proofs.density.greatest_density.Tie as tie
 
@@ -21,97 +26,133 @@ Inv-loop top bot first last carried₀ most₀ i₀ carried most i =
 abbrev μ-loop : tie.MeasureT-loop
 μ-loop top bot first last carried₀ most₀ i₀ carried most i = length top - i
 
--- the channel, and the column of a turn
-abbrev channel : tie.At-loop Inv-loop μ-loop → Channel
-channel c = rows (c .before .before .before .args .top .now) (c .before .before .before .args .bot .now)
+-- the channel, and the plain columns of its nets
+abbrev At : Type 0
+At = tie.At-loop Inv-loop μ-loop
 
-column : (c : tie.In-loop Inv-loop μ-loop) → ColumnPins (channel (c .before)) (c .before .before .before .before .args .first .now) (c .before .before .before .before .args .last .now) (getD (channel (c .before) .top) (c .before .loop .i) 0) (getD (channel (c .before) .bot) (c .before .loop .i) 0) (c .before .loop .i + 1)
+abbrev start : At → tie.Start Inv-loop μ-loop
+start l = l .before .before .before .before .before .before .before
+
+abbrev channel : At → Channel
+channel l = rows (start l .args .top .now) (start l .args .bot .now)
+
+first-known : (l : At) → l .before .before .plain-columns .result ≡ firsts (channel l)
+first-known l =
+    l .before .before .plain-columns .ensures
+    ∙ (ap (map (λ c. c .0)) (start l .pre .1 .first) ∙ plain-typed (firsts (channel l)))
+
+last-known : (l : At) → l .before .plain-columns2 .result ≡ lasts (channel l)
+last-known l =
+    l .before .plain-columns2 .ensures
+    ∙ (ap (map (λ c. c .0)) (start l .pre .1 .last) ∙ plain-typed (lasts (channel l)))
+
+-- a turn whose column's nets have their columns
+abbrev Turn : Type 0
+Turn = tie.After-span-at2 Inv-loop μ-loop
+
+abbrev in-loop : Turn → tie.In-loop Inv-loop μ-loop
+in-loop c = c .before .before .before .before .before .before .before .before
+
+abbrev at-loop : Turn → At
+at-loop c = in-loop c .before
+
+column : (c : Turn)
+    → ColumnPins (channel (at-loop c)) (at-loop c .loop .i + 1) (getD (channel (at-loop c) .top) (at-loop c .loop .i) 0)
+    (c .before .before .before .span-at .result) (getD (channel (at-loop c) .bot) (at-loop c .loop .i) 0)
+    (c .span-at2 .result)
 column c =
-    let pre = c .before .before .before .before .pre in
-    let ch = channel (c .before) in
-    let i = c .before .loop .i in
-    record { escapes = pre .0; firstColumns = pre .1; lastColumns = pre .2; onTop = sym (at-next (ch .top) i); onBot = sym (at-next (ch .bot) i); low = omega arith; high = omega arith }
-
--- its numbers are places of the arrays
-low : (c : tie.In-loop Inv-loop μ-loop) → (getD (channel (c .before) .top) (c .before .loop .i) 0 < 512) × (getD (channel (c .before) .bot) (c .before .loop .i) 0 < 512)
-low c =
-    let esc = c .before .before .before .before .pre .0 in
-    let i = c .before .loop .i in
-    omega (arith, top-low (channel (c .before)) i esc, bot-low (channel (c .before)) i esc)
+    let l = at-loop c in
+    column-pins (channel l) (start l .pre .0) (first-known l) (last-known l) (l .loop .i) (in-loop c .loop-test .taken)
+    (c .before .before .before .span-at .ensures) (c .span-at2 .ensures)
 
 -- the nets over the column
-over : (c : tie.After-count-of Inv-loop μ-loop) → c .before .before .before .before .before .loop .carried + c .count-of .result ≡ length (netsOver (channel (c .before .before .before .before .before)) (c .before .before .before .before .before .loop .i + 1))
+over : (c : tie.After-count-of Inv-loop μ-loop)
+    → at-loop (c .before .before) .loop .carried + c .count-of .result
+    ≡ length (netsOver (channel (at-loop (c .before .before))) (at-loop (c .before .before) .loop .i + 1))
 over c =
-    let turn = c .before .before .before .before in
-    let ch = channel (turn .before) in
-    let i = turn .before .loop .i in
-    let found = c .count-of .ensures ∙ ap (λ s. length (startingList s)) (c .before .nets-starting .ensures) ∙ ap length (starting-among (column turn)) in
-    omega (arith, over-enters ch i)
+    let turn = c .before .before in
+    let l = at-loop turn in
+    let found =
+    c .count-of .ensures
+    ∙ (ap (λ s. length (startingList s)) (c .before .nets-starting .ensures) ∙ ap length (starting-among (column turn)))
+    in
+    omega (arith, over-enters (channel l) (l .loop .i))
 
 -- those of them that do not end there
-left : (c : tie.After-ending Inv-loop μ-loop) → c .before .before .before .before .before .before .before .loop .carried + c .before .before .count-of .result ≡ length (carriedOn (channel (c .before .before .before .before .before .before .before)) (c .before .before .before .before .before .before .before .loop .i + 1)) + c .ending .result
+left : (c : tie.After-ending Inv-loop μ-loop)
+    → at-loop (c .before .before .before .before) .loop .carried + c .before .before .count-of .result
+    ≡ length
+    (carriedOn (channel (at-loop (c .before .before .before .before)))
+    (at-loop (c .before .before .before .before) .loop .i + 1))
+    + c .ending .result
 left c =
-    let turn = c .before .before .before .before .before .before in
-    let ch = channel (turn .before) in
-    let i = turn .before .loop .i in
+    let turn = c .before .before .before .before in
+    let l = at-loop turn in
     let found = c .ending .ensures ∙ ap length (ending-among (column turn)) in
-    omega (arith, over (c .before .before), over-leaves ch (i + 1))
+    omega (arith, over (c .before .before), over-leaves (channel l) (l .loop .i + 1))
+
+plain-columns-requires : tie.Need-plain-columns-requires Inv-loop μ-loop
+plain-columns-requires c κs = tt
+
+plain-columns-requires-2 : tie.Need-plain-columns-requires-2 Inv-loop μ-loop
+plain-columns-requires-2 c κs = tt
 
 loop-holds : tie.Need-loop-holds Inv-loop μ-loop
-loop-holds c = (omega arith, sym (none-carried _ (c .before .before .pre .0)), sym (density-none _))
+loop-holds c =
+    let pre = c .before .before .before .before .before .before .pre in
+    (omega arith, sym (none-carried _ (pre .0)), sym (density-none _))
 
 cast-here : tie.Need-cast-here Inv-loop μ-loop
-cast-here c = let n = c .before .before .before .before .pre .0 .narrow in omega arith
+cast-here c = let n = start (c .before) .pre .0 .narrow in omega arith
 
 add-here : tie.Need-add-here Inv-loop μ-loop
-add-here c = let n = c .before .before .before .before .pre .0 .narrow in omega arith
+add-here c = let n = start (c .before) .pre .0 .narrow in omega arith
 
-mul-here : tie.Need-mul-here Inv-loop μ-loop
-mul-here c = omega arith
+span-at-requires : tie.Need-span-at-requires Inv-loop μ-loop
+span-at-requires c κs =
+    let l = c .before .before .before .before .before in
+    top-low (channel l) (l .loop .i) (start l .pre .0)
 
-shared-slice-read-here : tie.Need-shared-slice-read-here Inv-loop μ-loop
-shared-slice-read-here c = omega arith
-
-mul-carried : tie.Need-mul-carried Inv-loop μ-loop
-mul-carried c = omega arith
-
-shared-slice-read-carried : tie.Need-shared-slice-read-carried Inv-loop μ-loop
-shared-slice-read-carried c = omega arith
+span-at-requires-2 : tie.Need-span-at-requires-2 Inv-loop μ-loop
+span-at-requires-2 c κs =
+    let l = c .before .before .before .before .before .before .before .before in
+    bot-low (channel l) (l .loop .i) (start l .pre .0)
 
 nets-starting-requires : tie.Need-nets-starting-requires Inv-loop μ-loop
-nets-starting-requires c κs = low (c .before .before)
+nets-starting-requires c κs = tt
 
 count-of-requires : tie.Need-count-of-requires Inv-loop μ-loop
-count-of-requires c κs = omega arith
+count-of-requires c κs = tt
 
 add-here-2 : tie.Need-add-here-2 Inv-loop μ-loop
 add-here-2 c =
-    let e = over c in
-    let few = over-few (channel (c .before .before .before .before .before)) (c .before .before .before .before .before .loop .i + 1) in
-    omega arith
+    let l = at-loop (c .before .before) in
+    omega (arith, over c, over-few (channel l) (l .loop .i + 1))
 
 ending-requires : tie.Need-ending-requires Inv-loop μ-loop
-ending-requires c κs = low (c .before .before .before .before .before)
+ending-requires c κs = tt
 
 sub-carried : tie.Need-sub-carried Inv-loop μ-loop
-sub-carried c =
-    let h = left c in
-    omega arith
+sub-carried c = omega (arith, left c)
 
 add-i : tie.Need-add-i Inv-loop μ-loop
-add-i c = omega arith
-
-loop-less : tie.Need-loop-less Inv-loop μ-loop
-loop-less c = omega arith
+add-i c =
+    let t = in-loop (c .before .before .before .before) in
+    omega (arith, t .loop-test .taken, start (t .before) .pre .0 .narrow)
 
 loop-again : tie.Need-loop-again Inv-loop μ-loop
 loop-again c =
     let j = c .before in
-    let turn = j .before .before .before .before .before in
+    let l = at-loop (j .before .before .before) in
+    let more = in-loop (j .before .before .before) .loop-test .taken in
     let kept = left c in
     let here = over (j .before) in
-    let most = density-more (channel (turn .before)) (turn .before .loop .i) in
-    (omega arith, omega arith, ⊎-elim (λ w. let t = w .0 .taken in let e = w .1 in omega arith) (λ w. let t = w .0 .left in let e = w .1 in omega arith) (j .if1 .came))
+    let most = density-more (channel l) (l .loop .i) in (
+      omega arith,
+      omega arith,
+      ⊎-elim (λ w. let t = w .0 .taken in let e = w .1 in omega arith)
+          (λ w. let t = w .0 .left in let e = w .1 in omega arith) (j .if1 .came),
+    )
 
 returns : tie.Need-returns Inv-loop μ-loop
 returns c =
@@ -122,22 +163,7 @@ returns c =
 pub greatest-density-spec : {M : Type 1} → statement M
 greatest-density-spec =
     tie.close
-    (tie.spec
-    Inv-loop
-    μ-loop
-    loop-holds
-    cast-here
-    add-here
-    mul-here
-    shared-slice-read-here
-    mul-carried
-    shared-slice-read-carried
-    nets-starting-requires
-    count-of-requires
-    add-here-2
-    ending-requires
-    sub-carried
-    add-i
-    loop-less
-    loop-again
+    (tie.spec Inv-loop μ-loop plain-columns-requires plain-columns-requires-2 loop-holds cast-here add-here
+    (λ c. omega arith) (λ c. omega arith) (λ c. omega arith) (λ c. omega arith) span-at-requires span-at-requires-2
+    nets-starting-requires count-of-requires add-here-2 ending-requires sub-carried add-i (λ c. omega arith) loop-again
     returns)

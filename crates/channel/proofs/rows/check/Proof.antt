@@ -1,5 +1,6 @@
--- `channel::rows::check` meets its contract. There is no loop: each test leads to the answer that the chain of refusals gives at it, by the law of
--- that answer, and what is known past the test is one of `Narrow`, `Even`, `Low`. The counts are those of both rows, counted from nothing.
+-- `channel::rows::check` meets its contract. There is no loop: each test leads to the answer that the chain of refusals
+-- gives at it, by the law of that answer, and what is known past the test is one of `Narrow`, `Even`, `Low`. The counts
+-- are those of both rows, counted from nothing.
 use Prim.Native.Nat.{ℕ, _+_, _≤_}
 use native.Mathlib.Omega.{arith}
 use mathlib.Core.Path.{_≡_, sym, _∙_, ap, subst}
@@ -10,8 +11,10 @@ use borrow.Author.Tests.{ltb-true, ltb-false}
 use lib.ListN.{length, getD}
 use Rattle.channel.specs.Channel.{Channel, rows}
 use Rattle.channel.specs.Rows.{tally, firstLone}
-use Rattle.channel.specs.RowLaws.{zeros, zeros-within, counts-within, first-high-left, first-high-right, first-high-most}
-use Rattle.channel.specs.AnswerLaws.{Narrow, Even, Low, answer-wide, answer-uneven, answer-high, answer-lone, answer-accepted}
+use Rattle.channel.specs.RowLaws.{zeros, zeros-within, counts-within, first-high-left, first-high-right}
+use Rattle.channel.specs.RowLaws.{first-high-most}
+use Rattle.channel.specs.AnswerLaws.{Narrow, Even, Low, answer-wide, answer-uneven, answer-high, answer-lone}
+use Rattle.channel.specs.AnswerLaws.{answer-accepted}
 use Rattle.channel.proofs.rows.check.Statement.{statement}
 use Rattle.channel.proofs.rows.check.Tie as tie
 
@@ -33,47 +36,56 @@ even c = record { narrow = narrow (c .before .before); same = c .before .if3 .le
 
 low : (c : tie.Else7) → Low (low-rows c)
 low c =
-    record { even = even (c .before .before .before .before); top-low = sym (c .before .before .before .first-high .ensures) ∙ c .before .before .if6 .left; bot-low = sym (c .before .first-high2 .ensures) ∙ c .if7 .left }
+    record {
+      even = even (c .before .before .before .before);
+      top-low = sym (c .before .before .before .first-high .ensures) ∙ c .before .before .if6 .left;
+      bot-low = sym (c .before .first-high2 .ensures) ∙ c .if7 .left;
+    }
 
 -- what is counted after each row
 top-counted : (c : tie.After-count-pins) → c .count-pins .last .1 .0 ≡ tally (low-rows (c .before .before) .top) zeros
 unfolding zeros
 top-counted c = c .count-pins .ensures
 
-lone-counted : (c : tie.After-first-lone) → c .first-lone .result ≡ firstLone (tally (low-rows (c .before .before .before .before .before .before) .bot) (tally (low-rows (c .before .before .before .before .before .before) .top) zeros))
+lone-counted : (c : tie.After-first-lone) → c .first-lone .result ≡ firstLone
+    (tally (low-rows (c .before .before .before .before .before .before) .bot)
+    (tally (low-rows (c .before .before .before .before .before .before) .top) zeros))
 lone-counted c =
     let bot-counted = c .before .before in
-    c .first-lone .ensures ∙ ap firstLone (bot-counted .count-pins2 .ensures ∙ ap (tally _) (top-counted (bot-counted .before .before)))
+    c .first-lone .ensures ∙ ap firstLone (bot-counted .count-pins2 .ensures
+    ∙ ap (tally _) (top-counted (bot-counted .before .before)))
 
 returns : tie.Need-returns
-returns c = answer-wide (given (c .before)) (⊎-elim (λ w. inl (omega arith)) (λ w. inr (omega (arith, ltb-true))) (c .if1 .came))
+returns c =
+    answer-wide (given (c .before)) (⊎-elim (λ w. inl (omega arith)) (λ w. inr (omega (arith, ltb-true)))
+    (c .if1 .came))
 
-add-t16 : tie.Need-add-t16
-add-t16 c = ⊎-elim (λ w. let e = w .1 in let l = w .0 .taken in omega arith) (λ w. let e = w .1 in let l = w .0 .left in omega arith) (c .before .if4 .came)
+add-t17 : tie.Need-add-t17
+add-t17 c =
+    ⊎-elim (λ w. let e = w .1 in let l = w .0 .taken in omega arith)
+    (λ w. let e = w .1 in let l = w .0 .left in omega arith) (c .before .if4 .came)
 
 returns-2 : tie.Need-returns-2
 returns-2 c =
     let e = c .before .before in
     answer-uneven (given (e .before .before .before)) (narrow (e .before)) (inl (e .if3 .taken)) _
-    (⊎-elim (λ w. let q = w .1 in let l = w .0 .taken in omega arith) (λ w. let q = w .1 in let l = w .0 .left in omega arith) (c .before .if4 .came))
+    (⊎-elim (λ w. let q = w .1 in let l = w .0 .taken in omega arith)
+    (λ w. let q = w .1 in let l = w .0 .left in omega arith) (c .before .if4 .came))
 
 returns-3 : tie.Need-returns-3
-returns-3 c = answer-uneven (given (c .before .before .before .before)) (narrow (c .before .before)) (inr (c .if5 .taken)) 1 (omega arith)
-
-first-high-requires : tie.Need-first-high-requires
-first-high-requires c κs = search needs
+returns-3 c =
+    answer-uneven (given (c .before .before .before .before)) (narrow (c .before .before)) (inr (c .if5 .taken)) 1
+    (omega arith)
 
 returns-4 : tie.Need-returns-4
 returns-4 c =
     let high = c .before in
     let ch = even-rows (high .before) in
-    answer-high ch (even (high .before)) _ (first-high-left (ch .top) (ch .bot) (λ z. c .if6 .taken (high .first-high .ensures ∙ z)) ∙ sym (high .first-high .ensures)) (c .if6 .taken)
+    answer-high ch (even (high .before)) _ (first-high-left (ch .top) (ch .bot)
+    (λ z. c .if6 .taken (high .first-high .ensures ∙ z)) ∙ sym (high .first-high .ensures)) (c .if6 .taken)
 
-first-high-requires-2 : tie.Need-first-high-requires-2
-first-high-requires-2 c κs = search needs
-
-add-t20 : tie.Need-add-t20
-add-t20 c =
+add-t21 : tie.Need-add-t21
+add-t21 c =
     let high = c .before .first-high2 in
     omega (arith, high .ensures, first-high-most (even-rows (c .before .before .before .before) .bot))
 
@@ -83,7 +95,9 @@ returns-5 c =
     let top-high = high .before .before in
     let ch = even-rows (top-high .before) in
     let some = c .if7 .taken in
-    answer-high ch (even (top-high .before)) _ (first-high-right (ch .top) (ch .bot) (sym (top-high .first-high .ensures) ∙ high .before .if6 .left) (λ z. some (high .first-high2 .ensures ∙ z)) ∙ ap (λ (k : ℕ). length (ch .top) + k) (sym (high .first-high2 .ensures))) (λ z. some (omega arith))
+    answer-high ch (even (top-high .before)) _ (first-high-right (ch .top) (ch .bot)
+    (sym (top-high .first-high .ensures) ∙ high .before .if6 .left) (λ z. some (high .first-high2 .ensures ∙ z))
+    ∙ ap (λ (k : ℕ). length (ch .top) + k) (sym (high .first-high2 .ensures))) (λ z. some (omega arith))
 
 count-pins-requires : tie.Need-count-pins-requires
 unfolding zeros
@@ -91,11 +105,13 @@ count-pins-requires c κs = let l = low (c .before) in (l .top-low, l .even .nar
 
 count-pins-requires-2 : tie.Need-count-pins-requires-2
 count-pins-requires-2 c κs =
-    let l = low (c .before .before .before) in
-    (l .bot-low, l .even .narrow .bot-narrow, λ n h. subst (λ (k : List ℕ). getD k n 0 ≤ 512) (sym (top-counted (c .before))) (let w = counts-within _ (l .top-low) n h in let t = l .even .narrow .top-narrow in omega arith))
-
-first-lone-requires : tie.Need-first-lone-requires
-first-lone-requires c κs = search needs
+    let l = low (c .before .before .before) in (
+      l .bot-low,
+      l .even .narrow .bot-narrow,
+      λ n h.
+          subst (λ (k : List ℕ). getD k n 0 ≤ 512) (sym (top-counted (c .before)))
+          (let w = counts-within _ (l .top-low) n h in let t = l .even .narrow .top-narrow in omega arith),
+    )
 
 returns-6 : tie.Need-returns-6
 returns-6 c =
@@ -110,18 +126,6 @@ returns-7 c =
 pub check-spec : {M : Type 1} → statement M
 check-spec =
     tie.close
-    (tie.spec
-    returns
-    add-t16
-    returns-2
-    returns-3
-    first-high-requires
-    returns-4
-    first-high-requires-2
-    add-t20
-    returns-5
-    count-pins-requires
-    count-pins-requires-2
-    first-lone-requires
-    returns-6
+    (tie.spec (λ c. search needs) returns add-t17 returns-2 returns-3 (λ c κs. search needs) returns-4
+    (λ c κs. search needs) add-t21 returns-5 count-pins-requires count-pins-requires-2 (λ c κs. search needs) returns-6
     returns-7)

@@ -1,5 +1,6 @@
--- `channel::rows::count_pins` meets its contract. The loop's invariant: counting what is left of the row gives what counting the whole row gives,
--- and no count has grown by more than one a turn. What is left of the row falls; at its end nothing is left to count.
+-- `channel::rows::count_pins` meets its contract. The loop's invariant: counting what is left of the row gives what
+-- counting the whole row gives, and no count has grown by more than one a turn. What is left of the row falls; at its
+-- end nothing is left to count.
 use Prim.Native.Nat.{ℕ, _+_, _≤_, _<_, _-_}
 use native.Mathlib.Omega.{arith}
 use mathlib.Core.Path.{_≡_, refl, sym, _∙_}
@@ -19,17 +20,13 @@ abbrev μ-loop : tie.MeasureT-loop
 μ-loop row counts₀ i₀ counts i = length row - i
 
 -- the number that a turn counts is at most 511
-low : (c : tie.After-shared-slice-known Inv-loop μ-loop) → getD (c .before .before .before .args .row .now) (c .before .before .loop .i) 0 < 512
-low c = let h = none-high _ (c .before .before .before .pre .0) (c .before .before .loop .i) (omega arith) in omega arith
+low : (c : tie.After-shared-slice-known Inv-loop μ-loop)
+    → getD (c .before .before .before .args .row .now) (c .before .before .loop .i) 0 < 512
+low c =
+    let h = none-high _ (c .before .before .before .pre .0) (c .before .before .loop .i) (omega arith) in omega arith
 
 loop-holds : tie.Need-loop-holds Inv-loop μ-loop
 loop-holds c = (omega arith, (λ n l. omega (arith, c .pre .2 n l)), refl)
-
-mul-n : tie.Need-mul-n Inv-loop μ-loop
-mul-n c = search needs
-
-shared-slice-read-n : tie.Need-shared-slice-read-n Inv-loop μ-loop
-shared-slice-read-n c = search needs
 
 cast-n : tie.Need-cast-n Inv-loop μ-loop
 cast-n c = omega (arith, c .shared-slice-known .given (c .before .before .loop .i))
@@ -49,17 +46,15 @@ mul-counts-2 c = omega (arith, low (c .before))
 element-write-counts : tie.Need-element-write-counts Inv-loop μ-loop
 element-write-counts c = low (c .before)
 
-add-i : tie.Need-add-i Inv-loop μ-loop
-add-i c = omega arith
-
-loop-less : tie.Need-loop-less Inv-loop μ-loop
-loop-less c = omega arith
-
 loop-again : tie.Need-loop-again Inv-loop μ-loop
 loop-again c =
     let loop = c .before .before .before .loop in
-    let room = loop .inv .1 in
-    (omega arith, (λ n l. set-within (loop .counts) _ n _ _ (omega (arith, room n l)) (omega (arith, room _ (low (c .before))))), tally-step _ (loop .counts) (loop .i) (omega arith) ∙ loop .inv .2)
+    let room = loop .inv .1 in (
+      omega arith,
+      (λ n l. set-within (loop .counts) _ n _ _ (omega (arith, room n l))
+          (omega (arith, room _ (low (c .before))))),
+      tally-step _ (loop .counts) (loop .i) (omega arith) ∙ loop .inv .2,
+    )
 
 returns : tie.Need-returns Inv-loop μ-loop
 returns c =
@@ -69,19 +64,6 @@ returns c =
 pub count-pins-spec : {M : Type 1} → statement M
 count-pins-spec =
     tie.close
-    (tie.spec
-    Inv-loop
-    μ-loop
-    loop-holds
-    mul-n
-    shared-slice-read-n
-    cast-n
-    mul-counts
-    element-copy-out-counts
-    add-counts
-    mul-counts-2
-    element-write-counts
-    add-i
-    loop-less
-    loop-again
-    returns)
+    (tie.spec Inv-loop μ-loop loop-holds (λ c. search needs) (λ c. search needs) cast-n mul-counts
+    element-copy-out-counts add-counts mul-counts-2 element-write-counts (λ c. omega arith) (λ c. omega arith)
+    loop-again returns)

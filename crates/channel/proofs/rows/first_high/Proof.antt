@@ -1,5 +1,5 @@
--- `channel::rows::first_high` meets its contract. The loop's invariant: no number before `i` is over 511. What is left of the row falls.
--- `first-high-at` closes the return from the loop, and `no-first-high` the one after it.
+-- `channel::rows::first_high` meets its contract. The loop's invariant: no number before `i` is over 511. What is left
+-- of the row falls. `first-high-at` closes the return from the loop, and `no-first-high` the one after it.
 use Prim.Native.Nat.{ℕ, _≤_, _<_, _-_}
 use native.Mathlib.Omega.{arith}
 use borrow.Author.Count.{below-more}
@@ -15,28 +15,10 @@ Inv-loop row i₀ i = (i ≤ length row) × ((k : ℕ) → k < i → getD row k 
 abbrev μ-loop : tie.MeasureT-loop
 μ-loop row i₀ i = length row - i
 
-loop-holds : tie.Need-loop-holds Inv-loop μ-loop
-loop-holds c = search needs
-
-mul-if1 : tie.Need-mul-if1 Inv-loop μ-loop
-mul-if1 c = search needs
-
-shared-slice-read-if1 : tie.Need-shared-slice-read-if1 Inv-loop μ-loop
-shared-slice-read-if1 c = search needs
-
-add-result : tie.Need-add-result Inv-loop μ-loop
-add-result c = omega arith
-
 returns : tie.Need-returns Inv-loop μ-loop
 returns c =
     let at-loop = c .before .before .before in
     first-high-at _ (at-loop .loop .i) (omega arith) (c .if1 .taken) (at-loop .loop .inv .1)
-
-add-i : tie.Need-add-i Inv-loop μ-loop
-add-i c = omega arith
-
-loop-less : tie.Need-loop-less Inv-loop μ-loop
-loop-less c = omega arith
 
 loop-again : tie.Need-loop-again Inv-loop μ-loop
 loop-again c = (omega arith, below-more _ _ (c .before .before .before .loop .inv .1) (c .if1 .left))
@@ -47,15 +29,5 @@ returns-2 c = no-first-high _ (λ k l. c .before .loop .inv .1 k (omega arith))
 pub first-high-spec : {M : Type 1} → statement M
 first-high-spec =
     tie.close
-    (tie.spec
-    Inv-loop
-    μ-loop
-    loop-holds
-    mul-if1
-    shared-slice-read-if1
-    add-result
-    returns
-    add-i
-    loop-less
-    loop-again
-    returns-2)
+    (tie.spec Inv-loop μ-loop (λ c. search needs) (λ c. search needs) (λ c. search needs) (λ c. omega arith) returns
+    (λ c. omega arith) (λ c. omega arith) loop-again returns-2)

@@ -1,14 +1,18 @@
--- `channel::spans::find_spans` meets its contract. The loop's invariant: after i columns the arrays hold the first and the last pin column of every number among those.
--- The columns left fall. At the end the first i columns are all of them (`firsts-whole`, `lasts-whole`).
+-- `channel::spans::find_spans` meets its contract. The loop's invariant: after i columns the arrays hold the first and
+-- the last pin column of every number among those. The columns left fall. At the end the first i columns are all of
+-- them (`firsts-whole`, `lasts-whole`).
 use Prim.Native.Nat.{ℕ, _+_, _-_, _≤_, _<_}
 use native.Mathlib.Omega.{arith}
 use mathlib.Core.Path.{_≡_, sym, _∙_, ap}
+use mathlib.Core.List.{map}
 use lib.ListN.{length, getD, set}
+use Rattle.grid.specs.Pieces.{column}
 use Rattle.channel.specs.Channel.{Channel, width, rows}
 use Rattle.channel.specs.Spans.{each512}
 use Rattle.channel.specs.Starts.{firstNoted}
 use Rattle.channel.specs.DepthLaws.{at-next, top-low, bot-low}
-use Rattle.channel.specs.NoteLaws.{firstBy, lastBy, firsts-none, lasts-none, firsts-whole, lasts-whole, firsts-noted, lasts-noted}
+use Rattle.channel.specs.NoteLaws.{firstBy, lastBy, firsts-none, lasts-none, firsts-whole, lasts-whole}
+use Rattle.channel.specs.NoteLaws.{firsts-noted, lasts-noted}
 use Rattle.channel.proofs.spans.find_spans.Statement.{statement}
 use Rattle.channel.proofs.spans.find_spans.Tie as tie
 
@@ -24,7 +28,8 @@ abbrev channel : tie.At-loop Inv-loop μ-loop → Channel
 channel c = rows (c .before .before .before .args .top .now) (c .before .before .before .args .bot .now)
 
 -- the numbers of a turn's column are places of the arrays
-low : (c : tie.In-loop Inv-loop μ-loop) → (getD (channel (c .before) .top) (c .before .loop .i) 0 < 512) × (getD (channel (c .before) .bot) (c .before .loop .i) 0 < 512)
+low : (c : tie.In-loop Inv-loop μ-loop) → (getD (channel (c .before) .top) (c .before .loop .i) 0 < 512)
+    × (getD (channel (c .before) .bot) (c .before .loop .i) 0 < 512)
 low c =
     let esc = c .before .before .before .before .pre in
     let i = c .before .loop .i in
@@ -33,35 +38,11 @@ low c =
 loop-holds : tie.Need-loop-holds Inv-loop μ-loop
 loop-holds c = (omega arith, firsts-none _, lasts-none _)
 
-cast-t9 : tie.Need-cast-t9 Inv-loop μ-loop
-cast-t9 c = omega arith
-
-add-t10 : tie.Need-add-t10 Inv-loop μ-loop
-add-t10 c = omega arith
-
-mul-t7 : tie.Need-mul-t7 Inv-loop μ-loop
-mul-t7 c = omega arith
-
-shared-slice-read-t10 : tie.Need-shared-slice-read-t10 Inv-loop μ-loop
-shared-slice-read-t10 c = omega arith
-
 note-requires : tie.Need-note-requires Inv-loop μ-loop
-note-requires c κs = low (c .before .before .before) .0
-
-mul-t7-2 : tie.Need-mul-t7-2 Inv-loop μ-loop
-mul-t7-2 c = omega arith
-
-shared-slice-read-t9 : tie.Need-shared-slice-read-t9 Inv-loop μ-loop
-shared-slice-read-t9 c = omega arith
+note-requires c κs = omega (arith, low (c .before .before .before) .0)
 
 note-requires-2 : tie.Need-note-requires-2 Inv-loop μ-loop
-note-requires-2 c κs = low (c .before .before .before .before .before .before .before) .1
-
-add-i : tie.Need-add-i Inv-loop μ-loop
-add-i c = omega arith
-
-loop-less : tie.Need-loop-less Inv-loop μ-loop
-loop-less c = omega arith
+note-requires-2 c κs = omega (arith, low (c .before .before .before .before .before .before .before) .1)
 
 loop-again : tie.Need-loop-again Inv-loop μ-loop
 loop-again c =
@@ -73,32 +54,37 @@ loop-again c =
     let one = c .before .before .before .before .note .ensures in
     let two = c .note2 .ensures in (
       omega arith,
-      two .0 ∙ ap (λ f. firstNoted f b (l .i + 1)) (one .0 ∙ ap (λ f. firstNoted f a (l .i + 1)) (l .inv .1)) ∙ firsts-noted ch (l .i) a b (sym (at-next (ch .top) (l .i))) (sym (at-next (ch .bot) (l .i))) (low turn .0) (low turn .1),
-      two .1 ∙ ap (λ f. set f b (l .i + 1)) (one .1 ∙ ap (λ f. set f a (l .i + 1)) (l .inv .2)) ∙ lasts-noted ch (l .i) a b (sym (at-next (ch .top) (l .i))) (sym (at-next (ch .bot) (l .i))) (low turn .0) (low turn .1),
+      two .0 ∙ ap (λ f. firstNoted f b (l .i + 1)) (one .0 ∙ ap (λ f. firstNoted f a (l .i + 1)) (l .inv .1))
+          ∙ firsts-noted ch (l .i) a b (sym (at-next (ch .top) (l .i))) (sym (at-next (ch .bot) (l .i))) (low turn .0)
+          (low turn .1),
+      two .1 ∙ ap (λ f. set f b (l .i + 1)) (one .1 ∙ ap (λ f. set f a (l .i + 1)) (l .inv .2))
+          ∙ lasts-noted ch (l .i) a b (sym (at-next (ch .top) (l .i))) (sym (at-next (ch .bot) (l .i))) (low turn .0)
+          (low turn .1),
     )
+
+typed-columns-requires : tie.Need-typed-columns-requires Inv-loop μ-loop
+typed-columns-requires c κs = tt
+
+typed-columns-requires-2 : tie.Need-typed-columns-requires-2 Inv-loop μ-loop
+typed-columns-requires-2 c κs = tt
 
 returns : tie.Need-returns Inv-loop μ-loop
 returns c =
-    let ch = channel (c .before) in
-    let all : c .before .loop .i ≡ width ch = omega arith in
-    (c .before .loop .inv .1 ∙ ap (λ (k : ℕ). each512 (firstBy ch k)) all ∙ firsts-whole ch, c .before .loop .inv .2 ∙ ap (λ (k : ℕ). each512 (lastBy ch k)) all ∙ lasts-whole ch)
+    let l = c .before .before in
+    let ch = channel (l .before) in
+    let all : l .before .loop .i ≡ width ch = omega arith in
+    record {
+      first =
+          c .before .typed-columns .ensures
+          ∙ ap (map column) (l .before .loop .inv .1 ∙ ap (λ (k : ℕ). each512 (firstBy ch k)) all ∙ firsts-whole ch);
+      last =
+          c .typed-columns2 .ensures
+          ∙ ap (map column) (l .before .loop .inv .2 ∙ ap (λ (k : ℕ). each512 (lastBy ch k)) all ∙ lasts-whole ch);
+    }
 
 pub find-spans-spec : {M : Type 1} → statement M
 find-spans-spec =
     tie.close
-    (tie.spec
-    Inv-loop
-    μ-loop
-    loop-holds
-    cast-t9
-    add-t10
-    mul-t7
-    shared-slice-read-t10
-    note-requires
-    mul-t7-2
-    shared-slice-read-t9
-    note-requires-2
-    add-i
-    loop-less
-    loop-again
-    returns)
+    (tie.spec Inv-loop μ-loop loop-holds (λ c. omega arith) (λ c. omega arith) (λ c. omega arith) (λ c. omega arith)
+    note-requires (λ c. omega arith) (λ c. omega arith) note-requires-2 (λ c. omega arith) (λ c. omega arith) loop-again
+    typed-columns-requires typed-columns-requires-2 returns)

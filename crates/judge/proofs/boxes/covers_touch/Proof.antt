@@ -1,32 +1,50 @@
--- `covers_touch` meets its contract: each return without a common point makes one test of the definition false, and the last leaves the kinds. Assumes nothing.
-use mathlib.Core.Path.{sym}
-use Rattle.judge.specs.BoxLaws.{apart-right, apart-left, apart-above, apart-below, common-point}
+-- `covers_touch` meets its contract: each return without a common point makes one test of the definition false, and the
+-- last leaves the kinds.
+use borrow.Author.Needs.{needs}
+use borrow.Author.Tests.{le-leb, lt-leb}
+use Rattle.judge.specs.Code.{boxesTouch}
 use Rattle.judge.proofs.boxes.covers_touch.Statement.{statement}
 use Rattle.judge.proofs.boxes.covers_touch.Tie as tie
 
 returns : tie.Need-returns
-returns c = sym (apart-right _ _ (c .if1 .taken))
+unfolding boxesTouch
+returns c = rw (lt-leb _ _ (c .if1 .taken))
 
 returns-2 : tie.Need-returns-2
-returns-2 c = sym (apart-left _ _ (c .before .before .before .if1 .left) (c .if2 .taken))
+unfolding boxesTouch
+returns-2 c = rw (le-leb _ _ (c .before .before .before .if1 .left), lt-leb _ _ (c .if2 .taken))
 
 returns-3 : tie.Need-returns-3
+unfolding boxesTouch
 returns-3 c =
     let b = c .before .before .before in
-    sym (apart-above _ _ (b .before .before .before .if1 .left) (b .if2 .left) (c .if3 .taken))
+    rw (le-leb _ _ (b .before .before .before .if1 .left), le-leb _ _ (b .if2 .left), lt-leb _ _ (c .if3 .taken))
 
 returns-4 : tie.Need-returns-4
+unfolding boxesTouch
 returns-4 c =
     let d = c .before .before .before in
     let b = d .before .before .before in
-    sym (apart-below _ _ (b .before .before .before .if1 .left) (b .if2 .left) (d .if3 .left) (c .if4 .taken))
+    rw (
+      le-leb _ _ (b .before .before .before .if1 .left),
+      le-leb _ _ (b .if2 .left),
+      le-leb _ _ (d .if3 .left),
+      lt-leb _ _ (c .if4 .taken),
+    )
 
 returns-5 : tie.Need-returns-5
+unfolding boxesTouch
 returns-5 c =
-    let e = c .before .before .before .before in
+    let e = c .before in
     let d = e .before .before .before in
     let b = d .before .before .before in
-    sym (common-point _ _ (b .before .before .before .if1 .left) (b .if2 .left) (d .if3 .left) (e .if4 .left))
+    rw (
+      le-leb _ _ (b .before .before .before .if1 .left),
+      le-leb _ _ (b .if2 .left),
+      le-leb _ _ (d .if3 .left),
+      le-leb _ _ (e .if4 .left),
+    )
+    (c .kinds-meet .ensures)
 
 pub covers-touch-spec : {M : Type 1} → statement M
-covers-touch-spec = tie.close (tie.spec returns returns-2 returns-3 returns-4 returns-5)
+covers-touch-spec = tie.close (tie.spec returns returns-2 returns-3 returns-4 (λ c κs. search needs) returns-5)

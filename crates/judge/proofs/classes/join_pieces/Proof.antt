@@ -1,4 +1,5 @@
--- `join_pieces` meets its contract. The invariant: the marks are those after joining to the touched pieces among the first i. What is left of j falls.
+-- `join_pieces` meets its contract. The invariant: the marks are those after joining to the touched pieces among the
+-- first i. What is left of j falls.
 use Prim.Native.Nat.{ℕ, _+_, _-_, _≤_}
 use native.Mathlib.Omega.{arith}
 use mathlib.Core.Path.{_≡_, refl, sym, _∙_, subst}
@@ -14,7 +15,9 @@ use Rattle.judge.proofs.classes.join_pieces.Statement.{statement}
 use Rattle.judge.proofs.classes.join_pieces.Tie as tie
 
 abbrev Inv-loop : tie.InvT-loop
-Inv-loop words j c scratch₀ base m mark₀ i₀ scratch mark i = (i ≤ j) × (length scratch ≡ length scratch₀) × JoinedTo (base + j) scratch₀ m (touched (λ u. boxesTouch (boxOf u) c) base (take i words)) mark scratch
+Inv-loop words j c scratch₀ base m mark₀ i₀ scratch mark i =
+    (i ≤ j) × (length scratch ≡ length scratch₀) × JoinedTo (base + j) scratch₀ m
+    (touched (λ u. boxesTouch (boxOf u) c) base (take i words)) mark scratch
 
 abbrev μ-loop : tie.MeasureT-loop
 μ-loop words j c scratch₀ base m mark₀ i₀ scratch mark i = j - i
@@ -22,27 +25,6 @@ abbrev μ-loop : tie.MeasureT-loop
 loop-holds : tie.Need-loop-holds Inv-loop μ-loop
 unfolding touched
 loop-holds c = let a = c .before .args in (omega arith, refl, join-none (a .base + a .j) (now (a .scratch)) (a .m))
-
-mul-join-piece : tie.Need-mul-join-piece Inv-loop μ-loop
-mul-join-piece c = omega arith
-
-element-copy-out-join-piece : tie.Need-element-copy-out-join-piece Inv-loop μ-loop
-element-copy-out-join-piece c = omega arith
-
-add-join-piece : tie.Need-add-join-piece Inv-loop μ-loop
-add-join-piece c = omega arith
-
-add-join-piece-2 : tie.Need-add-join-piece-2 Inv-loop μ-loop
-add-join-piece-2 c = omega arith
-
-join-piece-requires : tie.Need-join-piece-requires Inv-loop μ-loop
-join-piece-requires c κs = omega arith
-
-add-i : tie.Need-add-i Inv-loop μ-loop
-add-i c = omega arith
-
-loop-less : tie.Need-loop-less Inv-loop μ-loop
-loop-less c = omega arith
 
 loop-again : tie.Need-loop-again Inv-loop μ-loop
 loop-again c =
@@ -53,8 +35,15 @@ loop-again c =
     let ws = now (a .words) in (
       omega arith,
       c .before .before .join-piece .kept .1 .1 .0 ∙ inv .1,
-      subst (λ (l : List ℕ). JoinedTo (a .base + a .j) (now (a .scratch)) (a .m) l (c .before .before .join-piece .result) (c .before .before .join-piece .last .1 .1 .0)) (sym (touched-next f (a .base) ws i (omega arith)))
-          (join-both (a .base + a .j) (now (a .scratch)) (c .before .before .before .before .before .before .loop .scratch) (c .before .before .join-piece .last .1 .1 .0) (a .m) (c .before .before .before .before .before .before .loop .mark) (c .before .before .join-piece .result) (touched f (a .base) (take i ws)) (cond (f (getD ws i 0)) ((a .base + i) ∷ []) []) (inv .2) (c .before .before .join-piece .ensures)),
+      subst (λ (l : List ℕ). JoinedTo (a .base + a .j) (now (a .scratch)) (a .m) l
+          (c .before .before .join-piece .result) (c .before .before .join-piece .last .1 .1 .0))
+          (sym (touched-next f (a .base) ws i (omega arith)))
+          (join-both (a .base + a .j) (now (a .scratch))
+          (c .before .before .before .before .before .before .loop .scratch)
+          (c .before .before .join-piece .last .1 .1 .0) (a .m)
+          (c .before .before .before .before .before .before .loop .mark) (c .before .before .join-piece .result)
+          (touched f (a .base) (take i ws)) (cond (f (getD ws i 0)) ((a .base + i) ∷ []) []) (inv .2)
+          (c .before .before .join-piece .ensures)),
     )
 
 same-length : tie.Need-same-length Inv-loop μ-loop
@@ -64,22 +53,12 @@ returns : tie.Need-returns Inv-loop μ-loop
 returns c =
     let a = c .before .before .before .args in
     let e : c .before .loop .i ≡ a .j = omega arith in
-    subst (λ (k : ℕ). JoinedTo (a .base + a .j) (now (a .scratch)) (a .m) (touched (λ u. boxesTouch (boxOf u) (a .c)) (a .base) (take k (now (a .words)))) (c .before .loop .mark) (c .before .loop .scratch)) e (c .before .loop .inv .2)
+    subst (λ (k : ℕ). JoinedTo (a .base + a .j) (now (a .scratch)) (a .m)
+    (touched (λ u. boxesTouch (boxOf u) (a .c)) (a .base) (take k (now (a .words)))) (c .before .loop .mark)
+    (c .before .loop .scratch)) e (c .before .loop .inv .2)
 
 pub join-pieces-spec : {M : Type 1} → statement M
 join-pieces-spec =
     tie.close
-    (tie.spec
-    Inv-loop
-    μ-loop
-    loop-holds
-    mul-join-piece
-    element-copy-out-join-piece
-    add-join-piece
-    add-join-piece-2
-    join-piece-requires
-    add-i
-    loop-less
-    loop-again
-    same-length
-    returns)
+    (tie.spec Inv-loop μ-loop loop-holds (λ c. omega arith) (λ c. omega arith) (λ c. omega arith) (λ c. omega arith)
+    (λ c κs. omega arith) (λ c. omega arith) (λ c. omega arith) loop-again same-length returns)

@@ -17,27 +17,19 @@ returns : tie.Need-returns
 returns c =
     let a = c .before .before .before .args in
     let out : a .reaches ≡ false = not-true (a .reaches) (c .if1 .taken) in
-    subst (λ (b : Bool). JoinedTo (a .n) (now (a .scratch)) (a .m) (cond (b && ltb 0 (getD (now (a .row)) (a .i) 0)) (a .place ∷ []) []) (a .m) (now (a .scratch))) (sym out) (join-none (a .n) (now (a .scratch)) (a .m))
-
-mul-if2 : tie.Need-mul-if2
-mul-if2 c = search needs
-
-shared-slice-read-if2 : tie.Need-shared-slice-read-if2
-shared-slice-read-if2 c = search needs
+    subst (λ (b : Bool). JoinedTo (a .n) (now (a .scratch)) (a .m)
+    (cond (b && ltb 0 (getD (now (a .row)) (a .i) 0)) (a .place ∷ []) []) (a .m) (now (a .scratch))) (sym out)
+    (join-none (a .n) (now (a .scratch)) (a .m))
 
 returns-2 : tie.Need-returns-2
 returns-2 c =
     let a = c .before .before .before .before .before .args in
     let pin = ltb 0 (getD (now (a .row)) (a .i) 0) in
     let there = not-false (a .reaches) (c .before .before .if1 .left) in
-    let out : (a .reaches && pin) ≡ false = ap (λ (b : Bool). b && pin) there ∙ le-ltb 0 (getD (now (a .row)) (a .i) 0) (omega arith) in
-    subst (λ (b : Bool). JoinedTo (a .n) (now (a .scratch)) (a .m) (cond b (a .place ∷ []) []) (a .m) (now (a .scratch))) (sym out) (join-none (a .n) (now (a .scratch)) (a .m))
-
-join-requires : tie.Need-join-requires
-join-requires c κs = search needs
-
-same-length : tie.Need-same-length
-same-length c = search needs
+    let out : (a .reaches && pin) ≡ false = ap (λ (b : Bool). b && pin) there
+    ∙ le-ltb 0 (getD (now (a .row)) (a .i) 0) (omega arith) in
+    subst (λ (b : Bool). JoinedTo (a .n) (now (a .scratch)) (a .m) (cond b (a .place ∷ []) []) (a .m)
+    (now (a .scratch))) (sym out) (join-none (a .n) (now (a .scratch)) (a .m))
 
 returns-3 : tie.Need-returns-3
 returns-3 c =
@@ -45,10 +37,13 @@ returns-3 c =
     let pin = ltb 0 (getD (now (a .row)) (a .i) 0) in
     let there = not-false (a .reaches) (c .before .before .before .before .before .before .if1 .left) in
     let full = c .before .before .before .before .if2 .left in
-    let met : (a .reaches && pin) ≡ true = ap (λ (b : Bool). b && pin) there ∙ lt-ltb 0 (getD (now (a .row)) (a .i) 0) (omega arith) in
-    subst (λ (b : Bool). JoinedTo (a .n) (now (a .scratch)) (a .m) (cond b (a .place ∷ []) []) (c .before .before .join .result) (c .before .before .join .last .0)) (sym met) (c .before .before .join .ensures)
+    let met : (a .reaches && pin) ≡ true = ap (λ (b : Bool). b && pin) there
+    ∙ lt-ltb 0 (getD (now (a .row)) (a .i) 0) (omega arith) in
+    subst (λ (b : Bool). JoinedTo (a .n) (now (a .scratch)) (a .m) (cond b (a .place ∷ []) [])
+    (c .before .before .join .result) (c .before .before .join .last .0)) (sym met) (c .before .before .join .ensures)
 
 pub join-pin-spec : {M : Type 1} → statement M
 join-pin-spec =
     tie.close
-    (tie.spec returns mul-if2 shared-slice-read-if2 returns-2 join-requires same-length returns-3)
+    (tie.spec returns (λ c. search needs) (λ c. search needs) returns-2 (λ c κs. search needs) (λ c. search needs)
+    returns-3)

@@ -1,4 +1,5 @@
--- `mark_alone` meets its contract. The invariant: the first i numbers are 1 to i and the others are as they were. What is left of n falls.
+-- `mark_alone` meets its contract. The invariant: the first i numbers are 1 to i and the others are as they were. What
+-- is left of n falls.
 use Prim.Native.Nat.{ℕ, _+_, _-_, _≤_}
 use native.Mathlib.Omega.{arith}
 use mathlib.Core.Path.{_≡_, refl, _∙_, ap}
@@ -11,7 +12,8 @@ use Rattle.judge.proofs.classes.mark_alone.Statement.{statement}
 use Rattle.judge.proofs.classes.mark_alone.Tie as tie
 
 abbrev Inv-loop : tie.InvT-loop
-Inv-loop scratch₀ n i₀ scratch i = (i ≤ n) × (length scratch ≡ length scratch₀) × (scratch ≡ from 1 i ++ drop i scratch₀)
+Inv-loop scratch₀ n i₀ scratch i =
+    (i ≤ n) × (length scratch ≡ length scratch₀) × (scratch ≡ from 1 i ++ drop i scratch₀)
 
 abbrev μ-loop : tie.MeasureT-loop
 μ-loop scratch₀ n i₀ scratch i = n - i
@@ -20,30 +22,15 @@ loop-holds : tie.Need-loop-holds Inv-loop μ-loop
 unfolding from
 loop-holds c = (omega arith, refl, refl)
 
-cast-scratch : tie.Need-cast-scratch Inv-loop μ-loop
-cast-scratch c = omega arith
-
-add-scratch : tie.Need-add-scratch Inv-loop μ-loop
-add-scratch c = omega arith
-
-mul-scratch : tie.Need-mul-scratch Inv-loop μ-loop
-mul-scratch c = omega arith
-
-slice-write-scratch : tie.Need-slice-write-scratch Inv-loop μ-loop
-slice-write-scratch c = omega arith
-
-add-i : tie.Need-add-i Inv-loop μ-loop
-add-i c = omega arith
-
-loop-less : tie.Need-loop-less Inv-loop μ-loop
-loop-less c = omega arith
-
 loop-again : tie.Need-loop-again Inv-loop μ-loop
 loop-again c =
     let s = c .before .loop .scratch in
     let i = c .before .loop .i in
-    let s₀ = c .before .before .args .scratch .now in
-    (omega arith, length-set s i (i + 1) ∙ c .before .loop .inv .1, ap (λ (l : List ℕ). set l i (i + 1)) (c .before .loop .inv .2) ∙ alone-next s₀ i (omega arith))
+    let s₀ = c .before .before .args .scratch .now in (
+      omega arith,
+      length-set s i (i + 1) ∙ c .before .loop .inv .1,
+      ap (λ (l : List ℕ). set l i (i + 1)) (c .before .loop .inv .2) ∙ alone-next s₀ i (omega arith),
+    )
 
 same-length : tie.Need-same-length Inv-loop μ-loop
 same-length c = c .before .loop .inv .1
@@ -56,16 +43,5 @@ returns c =
 pub mark-alone-spec : {M : Type 1} → statement M
 mark-alone-spec =
     tie.close
-    (tie.spec
-    Inv-loop
-    μ-loop
-    loop-holds
-    cast-scratch
-    add-scratch
-    mul-scratch
-    slice-write-scratch
-    add-i
-    loop-less
-    loop-again
-    same-length
-    returns)
+    (tie.spec Inv-loop μ-loop loop-holds (λ c. omega arith) (λ c. omega arith) (λ c. omega arith) (λ c. omega arith)
+    (λ c. omega arith) (λ c. omega arith) loop-again same-length returns)

@@ -12,31 +12,14 @@ use Rattle.judge.proofs.classes.relabel.Statement.{statement}
 use Rattle.judge.proofs.classes.relabel.Tie as tie
 
 abbrev Inv-loop : tie.InvT-loop
-Inv-loop scratch₀ n old new i₀ scratch i = (i ≤ n) × (length scratch ≡ length scratch₀) × (scratch ≡ halfway old new scratch₀ i)
+Inv-loop scratch₀ n old new i₀ scratch i =
+    (i ≤ n) × (length scratch ≡ length scratch₀) × (scratch ≡ halfway old new scratch₀ i)
 
 abbrev μ-loop : tie.MeasureT-loop
 μ-loop scratch₀ n old new i₀ scratch i = n - i
 
 loop-holds : tie.Need-loop-holds Inv-loop μ-loop
 loop-holds c = (omega arith, refl, halfway-none _ _ _)
-
-mul-if1 : tie.Need-mul-if1 Inv-loop μ-loop
-mul-if1 c = omega arith
-
-slice-read-if1 : tie.Need-slice-read-if1 Inv-loop μ-loop
-slice-read-if1 c = omega arith
-
-mul-scratch : tie.Need-mul-scratch Inv-loop μ-loop
-mul-scratch c = omega arith
-
-slice-write-scratch : tie.Need-slice-write-scratch Inv-loop μ-loop
-slice-write-scratch c = omega arith
-
-add-i : tie.Need-add-i Inv-loop μ-loop
-add-i c = omega arith
-
-loop-less : tie.Need-loop-less Inv-loop μ-loop
-loop-less c = omega arith
 
 loop-again : tie.Need-loop-again Inv-loop μ-loop
 loop-again c =
@@ -48,8 +31,19 @@ loop-again c =
     let inside : i < length s₀ = omega arith in
     let here = ap (λ (l : List ℕ). getD l i 0) (inv .2) ∙ halfway-at (a .old) (a .new) s₀ i inside in
     ⊎-elim
-    (λ w. (omega arith, ap length (w .1) ∙ length-set s i (a .new) ∙ inv .1, w .1 ∙ ap (λ (l : List ℕ). set l i (a .new)) (inv .2) ∙ halfway-relabelled (a .old) (a .new) s₀ i inside (eq-eqb _ _ (sym here ∙ w .0 .taken))))
-    (λ w. (omega arith, ap length (w .1) ∙ inv .1, w .1 ∙ inv .2 ∙ halfway-kept (a .old) (a .new) s₀ i inside (ne-eqb _ _ (λ e. w .0 .left (here ∙ e)))))
+    (λ w. (
+      omega arith,
+      ap length (w .1) ∙ length-set s i (a .new) ∙ inv .1,
+      w .1
+          ∙ ap (λ (l : List ℕ). set l i (a .new)) (inv .2)
+          ∙ halfway-relabelled (a .old) (a .new) s₀ i inside (eq-eqb _ _ (sym here ∙ w .0 .taken)),
+    ))
+    (λ w. (
+      omega arith,
+      ap length (w .1) ∙ inv .1,
+      w .1 ∙ inv .2
+          ∙ halfway-kept (a .old) (a .new) s₀ i inside (ne-eqb _ _ (λ e. w .0 .left (here ∙ e))),
+    ))
     (c .if1 .came)
 
 same-length : tie.Need-same-length Inv-loop μ-loop
@@ -64,16 +58,5 @@ returns c =
 pub relabel-spec : {M : Type 1} → statement M
 relabel-spec =
     tie.close
-    (tie.spec
-    Inv-loop
-    μ-loop
-    loop-holds
-    mul-if1
-    slice-read-if1
-    mul-scratch
-    slice-write-scratch
-    add-i
-    loop-less
-    loop-again
-    same-length
-    returns)
+    (tie.spec Inv-loop μ-loop loop-holds (λ c. omega arith) (λ c. omega arith) (λ c. omega arith) (λ c. omega arith)
+    (λ c. omega arith) (λ c. omega arith) loop-again same-length returns)

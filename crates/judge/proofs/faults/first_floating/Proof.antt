@@ -1,4 +1,5 @@
--- `first_floating` meets its contract. The invariant: the marks of the first j pieces have owners. What is left of the count falls.
+-- `first_floating` meets its contract. The invariant: the marks of the first j pieces have owners. What is left of the
+-- count falls.
 use Prim.Native.Nat.{ℕ, _+_, _-_, _≤_, _<_}
 use native.Mathlib.Omega.{arith}
 use denote.Ref.{now}
@@ -16,37 +17,26 @@ abbrev μ-loop : tie.MeasureT-loop
 loop-holds : tie.Need-loop-holds Inv-loop μ-loop
 loop-holds c = (omega arith, λ k l. absurd (omega arith))
 
-add-if1 : tie.Need-add-if1 Inv-loop μ-loop
-add-if1 c = omega arith
-
-mul-if1 : tie.Need-mul-if1 Inv-loop μ-loop
-mul-if1 c = omega arith
-
-shared-slice-read-if1 : tie.Need-shared-slice-read-if1 Inv-loop μ-loop
-shared-slice-read-if1 c = omega arith
-
 cast-if1 : tie.Need-cast-if1 Inv-loop μ-loop
-cast-if1 c = let a = c .before .before .before .args in omega (arith, c .shared-slice-known .given (a .base + c .before .before .loop .j))
+cast-if1 c =
+    let a = c .before .before .before .args in omega
+    (arith, c .shared-slice-known .given (a .base + c .before .before .loop .j))
 
 mul-if1-2 : tie.Need-mul-if1-2 Inv-loop μ-loop
-mul-if1-2 c = let a = c .before .before .before .args in omega (arith, c .shared-slice-known .given (a .base + c .before .before .loop .j))
+mul-if1-2 c =
+    let a = c .before .before .before .args in omega
+    (arith, c .shared-slice-known .given (a .base + c .before .before .loop .j))
 
 shared-slice-read-if1-2 : tie.Need-shared-slice-read-if1-2 Inv-loop μ-loop
-shared-slice-read-if1-2 c = let a = c .before .before .before .before .args in c .before .before .before .before .pre .1 (a .base + c .before .before .before .loop .j) (omega arith)
-
-add-result : tie.Need-add-result Inv-loop μ-loop
-add-result c = omega arith
+shared-slice-read-if1-2 c =
+    let a = c .before .before .before .before .args in
+    c .before .before .before .before .pre .1 (a .base + c .before .before .before .loop .j) (omega arith)
 
 returns : tie.Need-returns Inv-loop μ-loop
 returns c =
     let a = c .before .before .before .before .before .args in
-    first-floating (now (a .marks)) (a .base) (a .count) (now (a .owners)) (c .before .before .before .before .loop .j) (c .before .before .before .loop-test .taken) (c .if1 .taken) (c .before .before .before .before .loop .inv .1)
-
-add-j : tie.Need-add-j Inv-loop μ-loop
-add-j c = omega arith
-
-loop-less : tie.Need-loop-less Inv-loop μ-loop
-loop-less c = omega arith
+    first-floating (now (a .marks)) (a .base) (a .count) (now (a .owners)) (c .before .before .before .before .loop .j)
+    (c .before .before .before .loop-test .taken) (c .if1 .taken) (c .before .before .before .before .loop .inv .1)
 
 loop-again : tie.Need-loop-again Inv-loop μ-loop
 loop-again c = (omega arith, below-more _ _ (c .before .before .before .before .loop .inv .1) (c .if1 .left))
@@ -60,19 +50,5 @@ returns-2 c =
 pub first-floating-spec : {M : Type 1} → statement M
 first-floating-spec =
     tie.close
-    (tie.spec
-    Inv-loop
-    μ-loop
-    loop-holds
-    add-if1
-    mul-if1
-    shared-slice-read-if1
-    cast-if1
-    mul-if1-2
-    shared-slice-read-if1-2
-    add-result
-    returns
-    add-j
-    loop-less
-    loop-again
-    returns-2)
+    (tie.spec Inv-loop μ-loop loop-holds (λ c. omega arith) (λ c. omega arith) (λ c. omega arith) cast-if1 mul-if1-2
+    shared-slice-read-if1-2 (λ c. omega arith) returns (λ c. omega arith) (λ c. omega arith) loop-again returns-2)

@@ -10,38 +10,20 @@ use denote.Ref.{now}
 use Rattle.judge.proofs.faults.net_at.Statement.{statement}
 use Rattle.judge.proofs.faults.net_at.Tie as tie
 
-mul-result : tie.Need-mul-result
-mul-result c = search needs
-
-shared-slice-read-result : tie.Need-shared-slice-read-result
-shared-slice-read-result c = search needs
-
 returns : tie.Need-returns
-returns c = let a = c .before .before .args in sym (List·getD-append (now (a .top)) (now (a .bot)) 0 (a .i) (c .before .if1 .taken))
-
-sub-result : tie.Need-sub-result
-sub-result c = search needs
-
-mul-result-2 : tie.Need-mul-result-2
-mul-result-2 c = omega arith
-
-shared-slice-read-result-2 : tie.Need-shared-slice-read-result-2
-shared-slice-read-result-2 c = omega arith
+returns c =
+    let a = c .before .before .args in sym (List·getD-append (now (a .top)) (now (a .bot)) 0 (a .i)
+    (c .before .if1 .taken))
 
 returns-2 : tie.Need-returns-2
 returns-2 c =
     let a = c .before .before .args in
     let e : length (now (a .top)) + (a .i - length (now (a .top))) ≡ a .i = omega arith in
-    sym (getD-append-add (now (a .top)) (now (a .bot)) (a .i - length (now (a .top))) 0) ∙ ap (λ (k : ℕ). getD (now (a .top) ++ now (a .bot)) k 0) e
+    sym (getD-append-add (now (a .top)) (now (a .bot)) (a .i - length (now (a .top))) 0)
+    ∙ ap (λ (k : ℕ). getD (now (a .top) ++ now (a .bot)) k 0) e
 
 pub net-at-spec : {M : Type 1} → statement M
 net-at-spec =
     tie.close
-    (tie.spec
-    mul-result
-    shared-slice-read-result
-    returns
-    sub-result
-    mul-result-2
-    shared-slice-read-result-2
+    (tie.spec (λ c. search needs) (λ c. search needs) returns (λ c. search needs) (λ c. omega arith) (λ c. omega arith)
     returns-2)

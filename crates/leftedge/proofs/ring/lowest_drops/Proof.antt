@@ -1,5 +1,6 @@
--- `lowest_drops` meets its contract. The loop's invariant: `columns` has for each number its lowest column past i over an unplaced net. i falls.
--- A turn is `drop-more` where the column is stored and `drop-same` where it is not; at 0, `drop-all` says that these are the lowest of all.
+-- `lowest_drops` meets its contract. The loop's invariant: `columns` has for each number its lowest column past i over
+-- an unplaced net. i falls. A turn is `drop-more` where the column is stored and `drop-same` where it is not; at 0,
+-- `drop-all` says that these are the lowest of all.
 use Prim.Native.Nat.{ℕ, suc, _+_, _-_, _≤_, _<_}
 use native.Mathlib.Omega.{arith}
 use mathlib.Core.Path.{_≡_, ap, _∙_}
@@ -14,7 +15,8 @@ use Rattle.leftedge.proofs.ring.lowest_drops.Statement.{statement}
 use Rattle.leftedge.proofs.ring.lowest_drops.Tie as tie
 
 abbrev Inv-loop : tie.InvT-loop
-Inv-loop top bot tracks columns₀ i₀ columns i = (i ≤ length top) × (columns ≡ each512 (dropFrom (rows top bot) tracks i))
+Inv-loop top bot tracks columns₀ i₀ columns i =
+    (i ≤ length top) × (columns ≡ each512 (dropFrom (rows top bot) tracks i))
 
 abbrev μ-loop : tie.MeasureT-loop
 μ-loop top bot tracks columns₀ i₀ columns i = i
@@ -24,7 +26,8 @@ record LowPins (top bot : List ℕ) (i : ℕ) : Type 0 where
   upper : getD top i 0 < 512
   lower : getD bot i 0 < 512
 
-low : (c : tie.At-loop Inv-loop μ-loop) → LowPins (now (c .before .args .top)) (now (c .before .args .bot)) (c .loop .i - 1)
+low : (c : tie.At-loop Inv-loop μ-loop) → LowPins (now (c .before .args .top)) (now (c .before .args .bot))
+    (c .loop .i - 1)
 low c =
     let top = now (c .before .args .top) in
     let bot = now (c .before .args .bot) in
@@ -37,21 +40,6 @@ low c =
 loop-holds : tie.Need-loop-holds Inv-loop μ-loop
 loop-holds c = (omega arith, drop-none (rows (now (c .args .top)) (now (c .args .bot))) (now (c .args .tracks)))
 
-sub-i : tie.Need-sub-i Inv-loop μ-loop
-sub-i c = omega arith
-
-mul-a : tie.Need-mul-a Inv-loop μ-loop
-mul-a c = omega arith
-
-shared-slice-read-a : tie.Need-shared-slice-read-a Inv-loop μ-loop
-shared-slice-read-a c = omega arith
-
-mul-b : tie.Need-mul-b Inv-loop μ-loop
-mul-b c = omega arith
-
-shared-slice-read-b : tie.Need-shared-slice-read-b Inv-loop μ-loop
-shared-slice-read-b c = omega arith
-
 cast-if1 : tie.Need-cast-if1 Inv-loop μ-loop
 cast-if1 c = omega (arith, low (c .before .before .before))
 
@@ -60,12 +48,6 @@ mul-if1 c = omega (arith, low (c .before .before .before))
 
 element-copy-out-if1 : tie.Need-element-copy-out-if1 Inv-loop μ-loop
 element-copy-out-if1 c = omega (arith, low (c .before .before .before))
-
-cast-columns : tie.Need-cast-columns Inv-loop μ-loop
-cast-columns c = omega arith
-
-add-columns : tie.Need-add-columns Inv-loop μ-loop
-add-columns c = omega arith
 
 cast-columns-2 : tie.Need-cast-columns-2 Inv-loop μ-loop
 cast-columns-2 c = omega (arith, low (c .before .before .before .before .before))
@@ -76,57 +58,40 @@ mul-columns c = omega (arith, low (c .before .before .before .before .before))
 array-write-columns : tie.Need-array-write-columns Inv-loop μ-loop
 array-write-columns c = omega (arith, low (c .before .before .before .before .before))
 
-loop-less : tie.Need-loop-less Inv-loop μ-loop
-loop-less c = omega arith
-
 loop-again : tie.Need-loop-again Inv-loop μ-loop
 loop-again c =
     let at-loop = c .before .before .before .before .before in
     let a = at-loop .before .args in
     let i = at-loop .loop .i in
-    let ch : Channel = rows (now (a .top)) (now (a .bot)) in
-    (omega arith, ap (λ (l : List ℕ). set l (getD (now (a .top)) (i - 1) 0) (i - 1 + 1)) (at-loop .loop .inv .1) ∙ drop-more ch (now (a .tracks)) i (i - 1) (omega arith) (at-loop .loop .inv .0) (low at-loop .upper) (c .if1 .taken))
-
-loop-less-2 : tie.Need-loop-less-2 Inv-loop μ-loop
-loop-less-2 c = omega arith
+    let ch : Channel = rows (now (a .top)) (now (a .bot)) in (
+      omega arith,
+      ap (λ (l : List ℕ). set l (getD (now (a .top)) (i - 1) 0) (i - 1 + 1)) (at-loop .loop .inv .1)
+          ∙ drop-more ch (now (a .tracks)) i (i - 1) (omega arith) (at-loop .loop .inv .0) (low at-loop .upper)
+          (c .if1 .taken),
+    )
 
 loop-again-2 : tie.Need-loop-again-2 Inv-loop μ-loop
 loop-again-2 c =
     let at-loop = c .before .before .before .before .before in
     let a = at-loop .before .args in
     let i = at-loop .loop .i in
-    let ch : Channel = rows (now (a .top)) (now (a .bot)) in
-    (omega arith, at-loop .loop .inv .1 ∙ drop-same ch (now (a .tracks)) i (i - 1) (omega arith) (at-loop .loop .inv .0) (c .if1 .left))
+    let ch : Channel = rows (now (a .top)) (now (a .bot)) in (
+      omega arith,
+      at-loop .loop .inv .1 ∙ drop-same ch (now (a .tracks)) i (i - 1) (omega arith) (at-loop .loop .inv .0)
+          (c .if1 .left),
+    )
 
 returns : tie.Need-returns Inv-loop μ-loop
 returns c =
     let a = c .before .before .args in
     let ch : Channel = rows (now (a .top)) (now (a .bot)) in
     let end : c .before .loop .i ≡ 0 = omega arith in
-    c .before .loop .inv .1 ∙ (ap (λ (i : ℕ). each512 (dropFrom ch (now (a .tracks)) i)) end ∙ drop-all ch (now (a .tracks)))
+    c .before .loop .inv .1 ∙ (ap (λ (i : ℕ). each512 (dropFrom ch (now (a .tracks)) i)) end
+    ∙ drop-all ch (now (a .tracks)))
 
 pub lowest-drops-spec : {M : Type 1} → statement M
 lowest-drops-spec =
     tie.close
-    (tie.spec
-    Inv-loop
-    μ-loop
-    loop-holds
-    sub-i
-    mul-a
-    shared-slice-read-a
-    mul-b
-    shared-slice-read-b
-    cast-if1
-    mul-if1
-    element-copy-out-if1
-    cast-columns
-    add-columns
-    cast-columns-2
-    mul-columns
-    array-write-columns
-    loop-less
-    loop-again
-    loop-less-2
-    loop-again-2
-    returns)
+    (tie.spec Inv-loop μ-loop loop-holds (λ c. omega arith) (λ c. omega arith) (λ c. omega arith) (λ c. omega arith)
+    (λ c. omega arith) cast-if1 mul-if1 element-copy-out-if1 (λ c. omega arith) (λ c. omega arith) cast-columns-2
+    mul-columns array-write-columns (λ c. omega arith) loop-again (λ c. omega arith) loop-again-2 returns)

@@ -1,5 +1,5 @@
--- `store_pairs` meets its contract. The loop's invariant: the front of `ring` holds the pairs of the places from `from` to i - 1, the rest is as it was. What is left of the steps falls.
--- A turn's two stores are `pairs-more`.
+-- `store_pairs` meets its contract. The loop's invariant: the front of `ring` holds the pairs of the places from `from`
+-- to i - 1, the rest is as it was. What is left of the steps falls. A turn's two stores are `pairs-more`.
 use Prim.Native.Nat.{ℕ, _+_, _-_, _*_, _≤_}
 use native.Mathlib.Omega.{arith}
 use mathlib.Core.Path.{_≡_, refl, ap, _∙_}
@@ -24,53 +24,20 @@ loop-holds c =
     let a = c .args in
     (omega arith, omega arith, refl, pairs-none (now (a .columns)) (now (a .trail)) (a .from) (a .from) (now (a .ring)))
 
-mul-n : tie.Need-mul-n Inv-loop μ-loop
-mul-n c = omega arith
-
-element-copy-out-n : tie.Need-element-copy-out-n Inv-loop μ-loop
-element-copy-out-n c = omega arith
-
-sub-ring : tie.Need-sub-ring Inv-loop μ-loop
-sub-ring c = omega arith
-
-mul-ring : tie.Need-mul-ring Inv-loop μ-loop
-mul-ring c = omega arith
-
-mul-ring-2 : tie.Need-mul-ring-2 Inv-loop μ-loop
-mul-ring-2 c = omega arith
-
-slice-write-ring : tie.Need-slice-write-ring Inv-loop μ-loop
-slice-write-ring c = omega arith
-
 cast-ring : tie.Need-cast-ring Inv-loop μ-loop
-cast-ring c = omega (arith, c .before .before .before .pre .4 (c .before .before .loop .i) (c .before .loop-test .taken))
+cast-ring c =
+    omega (arith, c .before .before .before .pre .4 (c .before .before .loop .i) (c .before .loop-test .taken))
 
 mul-ring-3 : tie.Need-mul-ring-3 Inv-loop μ-loop
-mul-ring-3 c = omega (arith, c .before .before .before .pre .4 (c .before .before .loop .i) (c .before .loop-test .taken))
+mul-ring-3 c =
+    omega (arith, c .before .before .before .pre .4 (c .before .before .loop .i) (c .before .loop-test .taken))
 
 element-copy-out-ring : tie.Need-element-copy-out-ring Inv-loop μ-loop
-element-copy-out-ring c = omega (arith, c .before .before .before .pre .4 (c .before .before .loop .i) (c .before .loop-test .taken))
-
-sub-ring-2 : tie.Need-sub-ring-2 Inv-loop μ-loop
-sub-ring-2 c = omega arith
-
-mul-ring-4 : tie.Need-mul-ring-4 Inv-loop μ-loop
-mul-ring-4 c = omega arith
-
-add-ring : tie.Need-add-ring Inv-loop μ-loop
-add-ring c = omega arith
-
-mul-ring-5 : tie.Need-mul-ring-5 Inv-loop μ-loop
-mul-ring-5 c = omega arith
+element-copy-out-ring c =
+    omega (arith, c .before .before .before .pre .4 (c .before .before .loop .i) (c .before .loop-test .taken))
 
 slice-write-ring-2 : tie.Need-slice-write-ring-2 Inv-loop μ-loop
 slice-write-ring-2 c = simp length-set (omega arith)
-
-add-i : tie.Need-add-i Inv-loop μ-loop
-add-i c = omega arith
-
-loop-less : tie.Need-loop-less Inv-loop μ-loop
-loop-less c = omega arith
 
 loop-again : tie.Need-loop-again Inv-loop μ-loop
 loop-again c =
@@ -82,42 +49,23 @@ loop-again c =
       omega arith,
       omega arith,
       simp length-set (at-loop .loop .inv .2),
-      ap (λ (l : List ℕ). set (set l (2 * (i - f)) n) (2 * (i - f) + 1) (getD (now (a .columns)) n 0)) (at-loop .loop .inv .3)
-          ∙ pairs-more (now (a .columns)) (now (a .trail)) f i (now (a .ring)) (at-loop .loop .inv .0) (omega arith) (omega arith),
+      ap (λ (l : List ℕ). set (set l (2 * (i - f)) n) (2 * (i - f) + 1) (getD (now (a .columns)) n 0))
+          (at-loop .loop .inv .3)
+          ∙ pairs-more (now (a .columns)) (now (a .trail)) f i (now (a .ring)) (at-loop .loop .inv .0) (omega arith)
+          (omega arith),
     )
-
-same-length : tie.Need-same-length Inv-loop μ-loop
-same-length c = omega arith
 
 returns : tie.Need-returns Inv-loop μ-loop
 returns c =
     let a = c .before .before .args in
     let end : c .before .loop .i ≡ a .steps = omega arith in
-    c .before .loop .inv .3 ∙ ap (λ (i : ℕ). overlay (pairs (now (a .columns)) (now (a .trail)) (a .from) i) (now (a .ring))) end
+    c .before .loop .inv .3 ∙ ap (λ (i : ℕ). overlay (pairs (now (a .columns)) (now (a .trail)) (a .from) i)
+    (now (a .ring))) end
 
 pub store-pairs-spec : {M : Type 1} → statement M
 store-pairs-spec =
     tie.close
-    (tie.spec
-    Inv-loop
-    μ-loop
-    loop-holds
-    mul-n
-    element-copy-out-n
-    sub-ring
-    mul-ring
-    mul-ring-2
-    slice-write-ring
-    cast-ring
-    mul-ring-3
-    element-copy-out-ring
-    sub-ring-2
-    mul-ring-4
-    add-ring
-    mul-ring-5
-    slice-write-ring-2
-    add-i
-    loop-less
-    loop-again
-    same-length
-    returns)
+    (tie.spec Inv-loop μ-loop loop-holds (λ c. omega arith) (λ c. omega arith) (λ c. omega arith) (λ c. omega arith)
+    (λ c. omega arith) (λ c. omega arith) cast-ring mul-ring-3 element-copy-out-ring (λ c. omega arith)
+    (λ c. omega arith) (λ c. omega arith) (λ c. omega arith) slice-write-ring-2 (λ c. omega arith) (λ c. omega arith)
+    loop-again (λ c. omega arith) returns)

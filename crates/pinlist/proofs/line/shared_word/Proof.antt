@@ -1,5 +1,5 @@
--- `pinlist::line::shared_word` meets its contract. The loop's invariant: the first `i` bytes of the word stand at `at`, and what the rest of it shares
--- with the rest of the text comes on top. What is left of the word falls.
+-- `pinlist::line::shared_word` meets its contract. The loop's invariant: the first `i` bytes of the word stand at `at`,
+-- and what the rest of it shares with the rest of the text comes on top. What is left of the word falls.
 use Prim.Native.Nat.{_+_, _≤_, _-_}
 use native.Mathlib.Omega.{arith}
 use mathlib.Core.Path.{_≡_, _∙_}
@@ -18,50 +18,26 @@ abbrev μ-loop : tie.MeasureT-loop
 loop-holds : tie.Need-loop-holds Inv-loop μ-loop
 loop-holds c = (omega arith, omega arith, shared-first _ _ (c .args .at))
 
-sub-if1 : tie.Need-sub-if1 Inv-loop μ-loop
-sub-if1 c = omega arith
-
 returns : tie.Need-returns Inv-loop μ-loop
 returns c = let loop = c .before .before .loop in shared-cut _ _ _ (loop .i) (omega arith) (loop .inv .2)
 
-add-if2 : tie.Need-add-if2 Inv-loop μ-loop
-add-if2 c = omega arith
-
-shared-slice-read-if2 : tie.Need-shared-slice-read-if2 Inv-loop μ-loop
-shared-slice-read-if2 c = omega arith
-
-element-copy-out-if2 : tie.Need-element-copy-out-if2 Inv-loop μ-loop
-element-copy-out-if2 c = search needs
-
 returns-2 : tie.Need-returns-2 Inv-loop μ-loop
-returns-2 c = let loop = c .before .before .before .before .before .loop in shared-differs _ _ _ (loop .i) (omega arith) (omega arith) (c .if2 .taken) (loop .inv .2)
-
-add-i : tie.Need-add-i Inv-loop μ-loop
-add-i c = omega arith
-
-loop-less : tie.Need-loop-less Inv-loop μ-loop
-loop-less c = omega arith
+returns-2 c =
+    let loop = c .before .before .before .before .before .loop in
+    shared-differs _ _ _ (loop .i) (omega arith) (omega arith) (c .if2 .taken) (loop .inv .2)
 
 loop-again : tie.Need-loop-again Inv-loop μ-loop
-loop-again c = let loop = c .before .before .before .before .before .loop in (omega arith, omega arith, shared-next _ _ _ (loop .i) (omega arith) (omega arith) (c .if2 .left) (loop .inv .2))
+loop-again c =
+    let loop = c .before .before .before .before .before .loop in
+    (omega arith, omega arith, shared-next _ _ _ (loop .i) (omega arith) (omega arith) (c .if2 .left) (loop .inv .2))
 
 returns-3 : tie.Need-returns-3 Inv-loop μ-loop
-returns-3 c = let loop = c .before .loop in let e : 4 ≡ loop .i = omega arith in e ∙ shared-whole _ _ _ (loop .i) (omega arith) (loop .inv .2)
+returns-3 c =
+    let loop = c .before .loop in let e : 4 ≡ loop .i = omega arith in
+    e ∙ shared-whole _ _ _ (loop .i) (omega arith) (loop .inv .2)
 
 pub shared-word-spec : {M : Type 1} → statement M
 shared-word-spec =
     tie.close
-    (tie.spec
-    Inv-loop
-    μ-loop
-    loop-holds
-    sub-if1
-    returns
-    add-if2
-    shared-slice-read-if2
-    element-copy-out-if2
-    returns-2
-    add-i
-    loop-less
-    loop-again
-    returns-3)
+    (tie.spec Inv-loop μ-loop loop-holds (λ c. omega arith) returns (λ c. omega arith) (λ c. omega arith)
+    (λ c. search needs) returns-2 (λ c. omega arith) (λ c. omega arith) loop-again returns-3)

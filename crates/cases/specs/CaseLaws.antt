@@ -1,0 +1,96 @@
+-- The loops over a row: whether its end is kept, and the numbers stored in it.
+use Prim.Native.Nat.{ℕ, _+_, _-_, _*_, _/_, _≤_, _<_}
+use native.Mathlib.Omega.{arith}
+use native.Mathlib.Numerals.{add-one}
+use mathlib.Core.Path.{_≡_, sym, _∙_}
+use mathlib.Core.List.{List, append-nil}
+use mathlib.Core.Bool.{true, false}
+use lib.ListN.{length, getD, set, take, drop, drop-of-length-le}
+use lib.Seq.{drop-cons}
+use borrow.Author.Tests.{eq-eqb, ne-eqb, lt-ltb, le-ltb, le-leb, lt-leb}
+use Rattle.lists.specs.Lists.{allOf, overlay}
+use Rattle.lists.specs.Arrays.{length-map-from, getD-numbered}
+use Rattle.lists.specs.Overlays.{copied-next, copied-whole}
+use Rattle.cases.specs.Cases.{
+  mark,
+  isKept,
+  pairOf,
+  numberAt,
+  numbersAt,
+  rowRoom,
+  rowsFit,
+  rowsWhole,
+  judgeWhole,
+}
+
+module _ (row : List ℕ) (i : ℕ) where
+  -- the loop of `is_kept`
+  pub kept-next : i < length row → getD row i 0 ≡ mark → isKept row i ≡ isKept row (i + 1)
+  unfolding isKept allOf
+  kept-next h e = rw (add-one, drop-cons row i 0, eq-eqb (getD row i 0) mark e)
+
+  pub not-kept : i < length row → (getD row i 0 ≡ mark → ⊥) → isKept row i ≡ false
+  unfolding isKept allOf
+  not-kept h e = rw (drop-cons row i 0, ne-eqb (getD row i 0) mark e)
+
+  pub kept-end : length row ≤ i → isKept row i ≡ true
+  unfolding isKept allOf
+  kept-end h = rw (drop-of-length-le row h)
+
+module _ (bytes : List ℕ) (at : ℕ) where
+  pub number-there : at + 2 ≤ length bytes → pairOf (getD bytes at 0) (getD bytes (at + 1) 0) ≡ numberAt bytes at
+  unfolding numberAt
+  number-there h = sym (rw (le-ltb (length bytes) (at + 2) h))
+
+  pub number-short : length bytes < at + 2 → 0 ≡ numberAt bytes at
+  unfolding numberAt
+  number-short h = sym (rw (lt-ltb (length bytes) (at + 2) h))
+
+  -- the loop of `read_row`
+  module _ (row₀ : List ℕ) where
+    abbrev numbers : List ℕ
+    numbers = numbersAt bytes at (length row₀)
+
+    size : length numbers ≡ length row₀
+    unfolding numbersAt
+    size = length-map-from (λ k. numberAt bytes (at + 2 * k)) (length row₀)
+
+    pub numbers-next : {row : List ℕ} (i : ℕ) → i < length row₀ → row ≡ overlay (take i numbers) row₀
+        → set row i (numberAt bytes (at + 2 * i)) ≡ overlay (take (i + 1) numbers) row₀
+    unfolding numbersAt
+    numbers-next i h e =
+        let same = getD-numbered (λ k. numberAt bytes (at + 2 * k)) (length row₀) i h in
+        rw (← same) (copied-next numbers row₀ i 0 (omega (arith, size)) (omega (arith, size)) e)
+
+    pub numbers-whole : {row : List ℕ} (i : ℕ) → length row₀ ≤ i → row ≡ overlay (take i numbers) row₀ → row ≡ numbers
+    numbers-whole i h e =
+        copied-whole numbers row₀ i (omega (arith, size)) e
+        ∙ rw (drop-of-length-le row₀ {i = length numbers} (omega (arith, size))) (append-nil numbers)
+
+-- whether the bytes make a question about two rows, test by test
+module _ (bytes : List ℕ) where
+  pub rows-short : length bytes < 2 → false ≡ rowsWhole bytes
+  unfolding rowsWhole
+  rows-short h = sym (rw (lt-leb 2 (length bytes) h))
+
+  pub judge-short : length bytes < 2 → false ≡ judgeWhole bytes
+  unfolding judgeWhole
+  judge-short h = sym (rw (lt-leb 2 (length bytes) h))
+
+  module _ (h : 2 ≤ length bytes) {a : ℕ} (e : a ≡ numberAt bytes 0) where
+    pub rows-few : (length bytes - 2) / 2 < a → false ≡ rowsWhole bytes
+    unfolding rowsWhole
+    rows-few k = sym (rw (le-leb 2 (length bytes) h, ← e, lt-leb a ((length bytes - 2) / 2) k))
+
+    pub rows-enough : a ≤ (length bytes - 2) / 2
+        → rowsFit a ((length bytes - 2) / 2 - a) rowRoom rowRoom ≡ rowsWhole bytes
+    unfolding rowsWhole
+    rows-enough k = sym (rw (le-leb 2 (length bytes) h, ← e, le-leb a ((length bytes - 2) / 2) k))
+
+    pub judge-few : length bytes < 2 + a → false ≡ judgeWhole bytes
+    unfolding judgeWhole
+    judge-few k = sym (rw (le-leb 2 (length bytes) h, ← e, lt-leb (2 + a) (length bytes) k))
+
+    pub judge-enough : 2 + a ≤ length bytes → rowsWhole (take a (drop 2 bytes)) ≡ judgeWhole bytes
+    unfolding judgeWhole
+    judge-enough k = sym (rw (le-leb 2 (length bytes) h, ← e, le-leb (2 + a) (length bytes) k))
