@@ -13,12 +13,11 @@ static struct verdict verdict_of(uint64_t entry_answer, uint32_t *value)
     return verdict;
 }
 
-static struct verdict read_text(const uint8_t *text, size_t length, struct answer *answer)
+static struct verdict read_text(const uint8_t *text, size_t length, uint32_t rows[ROWS][CABJIRT_ROW], uint32_t *width)
 {
     if (length > INPUT_LIMIT)
         return (struct verdict){true, 0, INPUT_LIMIT};
-    uint64_t read = cabjirt_read(text, length, answer->rows[TOP_ROW], CABJIRT_ROW, answer->rows[BOT_ROW], CABJIRT_ROW);
-    return verdict_of(read, &answer->width);
+    return verdict_of(cabjirt_read(text, length, rows[TOP_ROW], CABJIRT_ROW, rows[BOT_ROW], CABJIRT_ROW), width);
 }
 
 static struct verdict find_bounds(struct answer *answer)
@@ -44,8 +43,8 @@ static struct verdict route(struct answer *answer)
 
 void answer_pins(const struct pin_text *pins, struct answer *answer)
 {
-    static uint8_t text[TEXT_MOST];
-    answer->verdict = read_text(text, pin_text_compose(pins, text), answer);
+    uint8_t text[TEXT_MOST];
+    answer->verdict = read_text(text, pin_text_compose(pins, text), answer->rows, &answer->width);
     if (!answer->verdict.refused)
         answer->verdict = find_bounds(answer);
     if (!answer->verdict.refused)
@@ -66,13 +65,13 @@ size_t answer_board_length(const struct answer *answer)
 
 struct verdict answer_text(const uint8_t *text, size_t length)
 {
-    static struct answer unused;
-    return read_text(text, length, &unused);
+    uint32_t rows[ROWS][CABJIRT_ROW], width;
+    return read_text(text, length, rows, &width);
 }
 
 struct verdict answer_judge(const struct answer *answer, const uint8_t *board, size_t length, uint32_t *tracks)
 {
-    static uint32_t scratch[CABJIRT_SCRATCH];
+    uint32_t scratch[CABJIRT_SCRATCH];
     if (length > INPUT_LIMIT)
         return (struct verdict){true, 0, INPUT_LIMIT};
     return verdict_of(cabjirt_judge(answer->rows[TOP_ROW], answer->width, answer->rows[BOT_ROW], answer->width, board,

@@ -22,6 +22,11 @@ void order_changed(struct order *order)
     refusal_explain(&order->pins, &order->answer, &order->answer.verdict, &order->finding);
 }
 
+bool order_is_unsaved(const struct order *order)
+{
+    return !pin_text_same(&order->pins, &order->kept);
+}
+
 const struct verdict *order_verdict(const struct order *order)
 {
     return order->judged.shown ? &order->judged.verdict : &order->answer.verdict;
@@ -52,15 +57,27 @@ void order_summary(const struct order *order, char summary[MESSAGE_MOST])
 {
     const struct answer *answer = &order->answer;
     const struct verdict *verdict = order_verdict(order);
-    if (verdict->refused)
-        snprintf(summary, MESSAGE_MOST, "REFUSED %u %u  %s: %s", verdict->number, verdict->place,
-                 refusal_word(verdict->number), order->finding.words);
+    const struct finding *finding = &order->finding;
+    const char *where = finding->where;
+    if (verdict->refused) {
+        const char *word = refusal_word(verdict->number);
+        bool said = strstr(finding->meaning, word) != NULL; /* a meaning that has the word needs it no second time */
+        snprintf(summary, MESSAGE_MOST, "REFUSED %u %u  %s%s%s%s%s%s", verdict->number, verdict->place, said ? "" : word,
+                 said ? "" : ": ", finding->meaning, *where ? " (" : "", where, *where ? ")" : "");
+    }
     else if (order->judged.shown)
         snprintf(summary, MESSAGE_MOST, "GOOD %u  the board is good, on %u tracks", order->judged.tracks,
                  order->judged.tracks);
     else
         snprintf(summary, MESSAGE_MOST, "width %u  tracks %u  blank %u  density %u  chain %u  pieces %u", answer->width,
                  answer->tracks, answer->blank, answer->density, answer->chain, answer->pieces);
+}
+
+void order_remedy(const struct order *order, char remedy[MESSAGE_MOST])
+{
+    remedy[0] = '\0';
+    if (order->finding.remedy[0] != '\0')
+        snprintf(remedy, MESSAGE_MOST, "What to do: %s.", order->finding.remedy);
 }
 
 /* Says why a file with no two labelled lines is no pin list. */
@@ -80,7 +97,7 @@ static void say_garbled(struct order *order, const char *path, const uint8_t *te
 
 enum outcome order_load(struct order *order, const char *path)
 {
-    static uint8_t text[INPUT_LIMIT];
+    uint8_t text[INPUT_LIMIT];
     size_t length = 0;
     const char *why = "";
     enum file_outcome outcome = file_read(path, text, sizeof text, &length, &why);
@@ -89,13 +106,15 @@ enum outcome order_load(struct order *order, const char *path)
         return OUTCOME_FAILED;
     }
     if (outcome == FILE_TOO_LONG) {
-        say(order, "REFUSED 0 %d  not loaded: %s has more than %d bytes", INPUT_LIMIT, path, INPUT_LIMIT);
+        say(order, "REFUSED 0 %d  %s: not loaded, %s has more than %d bytes", INPUT_LIMIT, refusal_word(0), path,
+            INPUT_LIMIT);
         return OUTCOME_REFUSED;
     }
     if (!pin_text_take(&order->pins, text, length)) {
         say_garbled(order, path, text, length);
         return OUTCOME_REFUSED;
     }
+    order->kept = order->pins;
     order_changed(order);
     say(order, "loaded %s", path);
     return OUTCOME_DONE;
@@ -110,13 +129,11 @@ static enum outcome refused_first(struct order *order, const char *so)
     return OUTCOME_REFUSED;
 }
 
-enum outcome order_save(struct order *order, const char *path, bool replace)
+/* Writes a file and says what came of it. */
+static enum outcome save(struct order *order, const char *path, const uint8_t *bytes, size_t length, bool replace)
 {
-    const struct answer *answer = &order->answer;
     const char *why = "";
-    if (answer->verdict.refused)
-        return refused_first(order, "there is no board to save");
-    enum file_outcome outcome = file_write(path, answer->board, answer_board_length(answer), replace, &why);
+    enum file_outcome outcome = file_write(path, bytes, length, replace, &why);
     if (outcome == FILE_EXISTS) {
         say(order, "%s exists", path);
         return OUTCOME_EXISTS;
@@ -125,13 +142,30 @@ enum outcome order_save(struct order *order, const char *path, bool replace)
         say(order, "cannot write %s: %s", path, why);
         return OUTCOME_FAILED;
     }
-    say(order, "saved %zu bytes as %s", answer_board_length(answer), path);
+    say(order, "saved %zu bytes as %s", length, path);
     return OUTCOME_DONE;
+}
+
+enum outcome order_save_board(struct order *order, const char *path, bool replace)
+{
+    const struct answer *answer = &order->answer;
+    if (answer->verdict.refused)
+        return refused_first(order, "there is no board to save");
+    return save(order, path, answer->board, answer_board_length(answer), replace);
+}
+
+enum outcome order_save_pins(struct order *order, const char *path, bool replace)
+{
+    uint8_t text[TEXT_MOST];
+    enum outcome outcome = save(order, path, text, pin_text_compose(&order->pins, text), replace);
+    if (outcome == OUTCOME_DONE)
+        order->kept = order->pins;
+    return outcome;
 }
 
 enum outcome order_judge(struct order *order, const char *path)
 {
-    static uint8_t bytes[INPUT_LIMIT];
+    uint8_t bytes[INPUT_LIMIT];
     size_t length = 0;
     const char *why = "";
     struct judged *judged = &order->judged;

@@ -7,10 +7,7 @@
 #include "files.h"
 #include "refusals.h"
 
-enum {
-    PATH_LIMIT = 4096,
-    MESSAGE_MOST = PATH_LIMIT + WORDS_MOST
-};
+enum { MESSAGE_MOST = PATH_LIMIT + 3 * WORDS_MOST };
 
 enum outcome { OUTCOME_DONE, OUTCOME_REFUSED, OUTCOME_EXISTS, OUTCOME_FAILED };
 
@@ -25,6 +22,7 @@ struct judged {
 
 struct order {
     struct pin_text pins;
+    struct pin_text kept; /* the list as a file has it: as it was loaded or saved last */
     struct answer answer;
     struct judged judged;
     struct finding finding;     /* of the verdict that is shown: the judge's, or else the router's */
@@ -34,21 +32,29 @@ struct order {
 /* Answers the list anew; to be called after every change of it. */
 void order_changed(struct order *order);
 
+/* Whether the list was changed since a file had it. */
+bool order_is_unsaved(const struct order *order);
+
 /* The verdict that is shown, and whether a board is there to be drawn for it. */
 const struct verdict *order_verdict(const struct order *order);
 bool order_view(const struct order *order, struct board_view *view);
 
 /* Width, tracks, blank, density, chain and pieces of a list that was not refused; or the tracks of a good board; or the
- * refusal. */
+ * refusal with its meaning and its place in the rows. */
 void order_summary(const struct order *order, char summary[MESSAGE_MOST]);
+
+/* "What to do: .." about the refusal that is shown, or nothing. */
+void order_remedy(const struct order *order, char remedy[MESSAGE_MOST]);
 
 /* Each of these leaves its message. FAILED is the system's doing, REFUSED the shop's. */
 
 /* Takes a pin list from a file. A file that two typed rows cannot show is refused and changes nothing. */
 enum outcome order_load(struct order *order, const char *path);
 
-/* Writes the board file of the list; EXISTS where a file is there that is not to be replaced. */
-enum outcome order_save(struct order *order, const char *path, bool replace);
+/* Writes the board file of the list, or the list itself, refused or not; EXISTS where a file is there that is not to be
+ * replaced. */
+enum outcome order_save_board(struct order *order, const char *path, bool replace);
+enum outcome order_save_pins(struct order *order, const char *path, bool replace);
 
 /* Judges a board file against the list, and shows it, whatever the verdict. Refused where the list is, before the board
  * is read. */

@@ -9,19 +9,23 @@ void editor_clamp(struct editor *editor, const struct pin_text *pins)
         editor->cell = length;
 }
 
-void editor_follow(struct editor *editor, size_t cells_shown)
+static enum edit move_to(struct editor *editor, const struct pin_text *pins, size_t cell)
 {
-    if (editor->cell < editor->scroll)
-        editor->scroll = editor->cell;
-    if (cells_shown > 0 && editor->cell - editor->scroll >= cells_shown)
-        editor->scroll = editor->cell - cells_shown + 1;
-}
-
-static enum edit move_to(struct editor *editor, const struct pin_text *pins, int row, size_t cell)
-{
-    editor->row = row;
     editor->cell = cell;
     editor_clamp(editor, pins);
+    return EDIT_MOVED;
+}
+
+/* To the other row, in the same column and as far from its right edge; to the end of a row that has no such column. */
+static enum edit change_row(struct editor *editor, const struct pin_text *pins, int row)
+{
+    struct word here = row_word_at(&pins->rows[editor->row], editor->cell), there;
+    if (row == editor->row)
+        return EDIT_MOVED;
+    size_t back = here.end - editor->cell;
+    bool found = row_word_of(&pins->rows[row], here.column, &there);
+    editor->row = row;
+    editor->cell = !found ? pins->rows[row].length : there.end - there.first < back ? there.first : there.end - back;
     return EDIT_MOVED;
 }
 
@@ -52,21 +56,21 @@ enum edit editor_key(struct editor *editor, struct pin_text *pins, int key)
 {
     struct row_text *row = &pins->rows[editor->row];
     switch (key) {
-    case KEY_LEFT: return move_to(editor, pins, editor->row, editor->cell > 0 ? editor->cell - 1 : 0);
-    case KEY_RIGHT: return move_to(editor, pins, editor->row, editor->cell + 1);
-    case KEY_HOME: case CONTROL('A'): return move_to(editor, pins, editor->row, 0);
-    case KEY_END: case CONTROL('E'): return move_to(editor, pins, editor->row, row->length);
-    case KEY_UP: return move_to(editor, pins, TOP_ROW, editor->cell);
-    case KEY_DOWN: return move_to(editor, pins, BOT_ROW, editor->cell);
-    case KEY_TAB: case KEY_ENTER: return move_to(editor, pins, 1 - editor->row, editor->cell);
-    case KEY_BACKSPACE: return erase_before(editor, pins);
-    case KEY_DELETE: return row_remove(row, editor->cell) ? EDIT_CHANGED : EDIT_MOVED;
+    case K_LEFT: return move_to(editor, pins, editor->cell > 0 ? editor->cell - 1 : 0);
+    case K_RIGHT: return move_to(editor, pins, editor->cell + 1);
+    case K_HOME: case CONTROL('A'): return move_to(editor, pins, 0);
+    case K_END: case CONTROL('E'): return move_to(editor, pins, row->length);
+    case K_UP: return change_row(editor, pins, TOP_ROW);
+    case K_DOWN: return change_row(editor, pins, BOT_ROW);
+    case K_TAB: case K_ENTER: return change_row(editor, pins, 1 - editor->row);
+    case K_BACKSPACE: return erase_before(editor, pins);
+    case K_DELETE: return row_remove(row, editor->cell) ? EDIT_CHANGED : EDIT_MOVED;
     case CONTROL('U'): return clear_row(editor, pins);
     default: break;
     }
-    if (key >= ' ' && key <= '~')
+    if (key == ' ' || (key >= '0' && key <= '9'))
         return type_byte(editor, pins, (uint8_t)key);
-    return key > '~' && key < KEY_UP ? EDIT_NO_CHARACTER : EDIT_NONE;
+    return key > ' ' && key < K_UP ? EDIT_NO_CHARACTER : EDIT_NONE;
 }
 
 void editor_to_mark(struct editor *editor, const struct finding *finding)
@@ -83,48 +87,4 @@ void editor_to_mark(struct editor *editor, const struct finding *finding)
     }
     editor->row = to->row;
     editor->cell = to->first;
-}
-
-enum edit editor_paste(struct editor *editor, struct pin_text *pins, uint8_t *text, size_t length)
-{
-    if (length > 0 && length < TEXT_MOST && text[length - 1] != '\n')
-        text[length++] = '\n'; /* a selection often leaves out the last line feed */
-    if (pin_text_take(pins, text, length)) {
-        editor_clamp(editor, pins);
-        return EDIT_CHANGED;
-    }
-    for (size_t i = 0; i + 1 < length; i++) {
-        if (text[i] == '\n')
-            move_to(editor, pins, 1 - editor->row, pins->rows[1 - editor->row].length);
-        else if (type_byte(editor, pins, text[i]) == EDIT_FULL)
-            return EDIT_FULL;
-    }
-    return EDIT_CHANGED;
-}
-
-void prompt_open(struct prompt *prompt, enum prompt_kind kind)
-{
-    prompt->kind = kind;
-    if (kind == PROMPT_REPLACE)
-        return;
-    prompt->length = 0;
-    prompt->text[0] = '\0';
-}
-
-bool prompt_key(struct prompt *prompt, int key)
-{
-    if (key == KEY_BACKSPACE && prompt->length > 0) {
-        /* the bytes that only continue a UTF-8 character go with it */
-        do
-            prompt->length--;
-        while (prompt->length > 0 && ((unsigned char)prompt->text[prompt->length] & 0xC0) == 0x80);
-    } else if (key == CONTROL('U')) {
-        prompt->length = 0;
-    } else if (key >= ' ' && key < KEY_UP && key != KEY_BACKSPACE) {
-        if (prompt->length + 1 >= PATH_LIMIT)
-            return false;
-        prompt->text[prompt->length++] = (char)key;
-    }
-    prompt->text[prompt->length] = '\0';
-    return true;
 }

@@ -1,229 +1,167 @@
 #include "full_screen.h"
 
+#include <ncurses.h>
 #include <stdio.h>
+#include <stdlib.h>
 
-#include "cells.h"
+#include "edits.h"
 #include "keys.h"
+#include "questions.h"
 #include "screen_view.h"
-#include "terminal.h"
+#include "window.h"
 
-/* A text being pasted, until its end comes. */
-static uint8_t pasted[TEXT_MOST];
-static size_t pasted_length;
-static bool pasting;
-
-static void beep(struct screen *screen, const char *why)
+static void show_help(struct screen *screen, size_t page)
 {
-    terminal_send("\a", 1);
-    snprintf(screen->order->message, sizeof screen->order->message, "%s", why);
-    screen->message_is_bad = true;
-}
-
-static void told(struct screen *screen, enum outcome outcome)
-{
-    screen->message_is_bad = outcome != OUTCOME_DONE;
-    if (screen->message_is_bad)
-        terminal_send("\a", 1);
-}
-
-static void after_edit(struct screen *screen, enum edit edit)
-{
-    if (edit == EDIT_NONE)
-        return;
-    screen->order->message[0] = '\0';
-    screen->message_is_bad = false;
-    if (edit == EDIT_FULL)
-        beep(screen, "the row is full: it holds 65536 bytes");
-    if (edit == EDIT_NO_CHARACTER)
-        beep(screen, "a pin list has digits and spaces only");
-    if (edit == EDIT_CHANGED || edit == EDIT_FULL)
-        screen->answer_is_due = true;
-    screen->follows_cursor = true;
-}
-
-/* Answers the list if it was edited. Done before anything asks for the answer: keys typed ahead cost one answer. */
-static void settle(struct screen *screen)
-{
-    if (screen->answer_is_due)
-        order_changed(screen->order);
-    if (screen->follows_cursor)
-        screen_follow_cursor(screen);
-    screen->answer_is_due = screen->follows_cursor = false;
-}
-
-static void load(struct screen *screen)
-{
-    enum outcome outcome = order_load(screen->order, screen->prompt.text);
-    told(screen, outcome);
-    if (outcome == OUTCOME_DONE) {
-        screen->editor = (struct editor){TOP_ROW, 0, 0};
-        screen->scroll_across = screen->scroll_down = 0;
-    }
-}
-
-static void judge(struct screen *screen)
-{
-    struct order *order = screen->order;
-    enum outcome outcome = order_judge(order, screen->prompt.text);
-    told(screen, outcome);
-    if (outcome != OUTCOME_DONE)
-        return;
-    snprintf(order->message, sizeof order->message, "this is the file's board; Esc goes back to the list's own");
-    screen_follow_fault(screen);
-}
-
-static void save(struct screen *screen, bool replace)
-{
-    enum outcome outcome = order_save(screen->order, screen->prompt.text, replace);
-    if (outcome == OUTCOME_EXISTS)
-        prompt_open(&screen->prompt, PROMPT_REPLACE);
-    else
-        told(screen, outcome);
-}
-
-static void replace_key(struct screen *screen, int key)
-{
-    bool yes = key == 'y' || key == 'Y', no = key == 'n' || key == 'N' || key == KEY_ESCAPE;
-    if (!yes && !no)
-        return;
-    screen->prompt.kind = PROMPT_NONE;
-    if (yes)
-        save(screen, true);
-    else
-        beep(screen, "not saved");
-}
-
-static void name_key(struct screen *screen, int key)
-{
-    enum prompt_kind kind = screen->prompt.kind;
-    if (key != KEY_ENTER && key != KEY_ESCAPE) {
-        if (!prompt_key(&screen->prompt, key))
-            terminal_send("\a", 1);
-        return;
-    }
-    screen->prompt.kind = PROMPT_NONE;
-    if (key == KEY_ESCAPE || screen->prompt.length == 0)
-        return;
-    if (kind == PROMPT_LOAD)
-        load(screen);
-    else if (kind == PROMPT_SAVE)
-        save(screen, false);
-    else
-        judge(screen);
-}
-
-/* Asks for a file name; not for a board that is not there. */
-static void ask(struct screen *screen, enum prompt_kind kind)
-{
-    const struct answer *answer = &screen->order->answer;
-    screen->order->message[0] = '\0';
-    screen->message_is_bad = false;
-    if (kind == PROMPT_SAVE && answer->verdict.refused)
-        beep(screen, "there is no board to save: the pin list is refused");
-    else if (kind == PROMPT_JUDGE && !answer_has_rows(answer))
-        beep(screen, "no board is judged: the pin list is refused");
-    else
-        prompt_open(&screen->prompt, kind);
-}
-
-static void back_to_list(struct screen *screen)
-{
-    screen->order->message[0] = '\0';
-    screen->message_is_bad = false;
-    order_changed(screen->order);
+    screen->helps = true;
+    screen->help_page = page;
 }
 
 static void command_key(struct screen *screen, int key)
 {
-    settle(screen);
+    edit_settle(screen);
     switch (key) {
-    case CONTROL('O'): case KEY_F2: ask(screen, PROMPT_LOAD); break;
-    case CONTROL('S'): case KEY_F3: ask(screen, PROMPT_SAVE); break;
-    case CONTROL('G'): case KEY_F4: ask(screen, PROMPT_JUDGE); break;
-    case KEY_ESCAPE: back_to_list(screen); break;
-    case CONTROL('N'):
-        editor_to_mark(&screen->editor, &screen->order->finding);
-        screen->follows_cursor = true;
-        break;
+    case K_F1: show_help(screen, 0); break;
+    case CONTROL('O'): case K_F2: question_ask(screen, PROMPT_LOAD); break;
+    case CONTROL('S'): case K_F3: question_ask(screen, PROMPT_SAVE_BOARD); break;
+    case CONTROL('G'): case K_F4: question_ask(screen, PROMPT_JUDGE); break;
+    case CONTROL('_'): case K_F5: edit_step(screen, true); break;
+    case CONTROL('Y'): case K_F6: edit_step(screen, false); break;
+    case CONTROL('W'): case K_F7: question_ask(screen, PROMPT_SAVE_PINS); break;
+    case CONTROL('N'): edit_to_mark(screen); break;
+    case K_ESCAPE: edit_show_list(screen); break;
     default: screen_scroll(screen, key); break;
     }
 }
 
-static void paste_key(struct screen *screen, int key)
+/* A new size shows what was shown before it, as far as it can; the cursor stays in sight. */
+static void resize(struct screen *screen)
 {
-    if (key == KEY_PASTE_END || key == KEY_ESCAPE) {
-        pasting = false;
-        if (pasted_length == TEXT_MOST)
-            beep(screen, "the pasted text is too long for two rows, and was not taken");
-        else
-            after_edit(screen, editor_paste(&screen->editor, &screen->order->pins, pasted, pasted_length));
-    } else if (key < KEY_UP && pasted_length < TEXT_MOST) {
-        pasted[pasted_length++] = key == KEY_ENTER ? '\n' : (uint8_t)key;
-    }
+    clearok(curscr, TRUE); /* terminals differ in what they keep */
+    screen->resized = true;
+    screen->scroll_across = screen->scroll_chosen;
+    screen->follows_cursor = screen->cursor_was_shown;
+}
+
+/* A label comes from a paste, which this terminal does not mark: the bytes that come with it are taken as one text. */
+static void unmarked_paste(struct screen *screen, int key)
+{
+    paste_begin(&screen->paste);
+    for (; key < K_UP && screen->paste.open; key = keys_soon())
+        paste_key(&screen->paste, key);
+    screen->paste.open = false;
+    edit_paste(screen);
+    if (key == K_RESIZE)
+        resize(screen);
+}
+
+static bool begins_label(int key)
+{
+    return key == row_names[TOP_ROW][0] || key == row_names[BOT_ROW][0];
+}
+
+static void row_key(struct screen *screen, int key)
+{
+    screen->before = screen->order->pins;
+    enum edit edit = editor_key(&screen->editor, &screen->order->pins, key);
+    edit_done(screen, edit);
+    if (edit == EDIT_NONE)
+        command_key(screen, key);
 }
 
 static void one_key(struct screen *screen, int key)
 {
-    if (pasting) {
-        paste_key(screen, key);
-    } else if (screen->prompt.kind == PROMPT_REPLACE) {
-        replace_key(screen, key);
+    if (screen->paste.open) {
+        paste_key(&screen->paste, key);
+        if (!screen->paste.open)
+            edit_paste(screen);
+    } else if (key == K_PASTE_BEGIN) {
+        screen->helps = false;
+        paste_begin(&screen->paste);
+    } else if (screen->helps) {
+        show_help(screen, screen->help_next);
+        screen->helps = screen->help_page > 0 && key != K_ESCAPE;
+    } else if (prompt_wants_name(&screen->prompt)) {
+        question_name_key(screen, key);
     } else if (screen->prompt.kind != PROMPT_NONE) {
-        name_key(screen, key);
-    } else if (key == KEY_PASTE_BEGIN) {
-        pasting = true;
-        pasted_length = 0;
+        question_choice_key(screen, key);
+    } else if (begins_label(key)) {
+        unmarked_paste(screen, key);
     } else {
-        enum edit edit = editor_key(&screen->editor, &screen->order->pins, key);
-        after_edit(screen, edit);
-        if (edit == EDIT_NONE)
-            command_key(screen, key);
+        row_key(screen, key);
     }
 }
 
-static void fit_window(void)
+/* While the window is too small, keys do nothing but leave. */
+static bool is_shut(const struct screen *screen)
 {
-    int rows, across;
-    terminal_size(&rows, &across);
-    cells_resize(rows, across);
+    return !screen_fits() && screen->prompt.kind != PROMPT_DISCARD_AND_QUIT;
 }
 
-static bool quits(int key)
+/* Takes the keys that mean the same everywhere. Answers the key that is left to be taken. */
+static int window_key(struct screen *screen, int key)
 {
-    return key == KEY_HANG_UP || (!pasting && (key == KEY_F10 || key == CONTROL('Q')));
+    int last = screen->last_key;
+    screen->last_key = key;
+    if (key == K_RESIZE)
+        resize(screen);
+    else if (screen->paste.open)
+        return key;
+    else if (key == CONTROL('C') || key == CONTROL('Q') || key == K_F10)
+        question_quit(screen);
+    else if (key == CONTROL('L'))
+        clearok(curscr, TRUE);
+    else if (key == CONTROL('Z'))
+        window_suspend();
+    else if (key == K_LINE_FEED)
+        return last == K_ENTER || is_shut(screen) ? K_NONE : K_ENTER; /* CR LF is one Enter */
+    else
+        return is_shut(screen) ? K_NONE : key;
+    return K_NONE;
 }
 
-/* Takes keys until none waits: what was typed ahead, or a held key, is painted once. Answers the key that quits. */
-static int take_keys(struct screen *screen)
+/* Takes keys until none waits: what was typed ahead, or a held key, is painted once. Answers whether input goes on. */
+static bool take_keys(struct screen *screen)
 {
-    for (int key = key_next(true); key != KEY_NONE; key = key_next(false)) {
-        if (quits(key))
-            return key;
-        if (key == KEY_RESIZE || (!pasting && key == CONTROL('L')))
-            fit_window();
-        else
+    for (int key = keys_next(true); key != K_NONE && !screen->ends; key = keys_next(false)) {
+        if (key == K_HANG_UP)
+            return false;
+        key = window_key(screen, key);
+        if (key != K_NONE)
             one_key(screen, key);
     }
-    return KEY_NONE;
+    return true;
+}
+
+static bool run(struct screen *screen)
+{
+    bool goes_on = true;
+    while (goes_on && !screen->ends) {
+        edit_settle(screen);
+        screen_paint(screen);
+        if (screen_fits())
+            screen->cursor_was_shown = screen_shows_cursor(screen);
+        if (!screen->resized)
+            screen->scroll_chosen = screen->scroll_across;
+        screen->resized = false;
+        goes_on = take_keys(screen);
+    }
+    return goes_on;
 }
 
 int full_screen(struct order *order, bool message_is_bad)
 {
-    static struct screen screen;
-    int key = KEY_NONE;
-    screen.order = order;
-    screen.message_is_bad = message_is_bad;
-    cells_ask_environment();
-    if (!terminal_open()) {
+    struct screen *screen = calloc(1, sizeof *screen);
+    if (screen == NULL || !window_open()) {
         fprintf(stderr, "order: the terminal cannot be set up\n");
+        free(screen);
         return 2;
     }
-    fit_window();
-    while (key == KEY_NONE) {
-        settle(&screen);
-        screen_paint(&screen);
-        key = take_keys(&screen);
-    }
-    terminal_close();
-    return key == KEY_HANG_UP ? 1 : 0;
+    screen->order = order;
+    screen->message_is_bad = message_is_bad;
+    columns_lay(&screen->columns, &order->pins);
+    bool quit_by_key = run(screen);
+    window_close();
+    history_forget(&screen->history);
+    free(screen);
+    return quit_by_key ? 0 : 1;
 }

@@ -1,89 +1,123 @@
 #include "keys.h"
 
-#include "terminal.h"
+#include <errno.h>
+#include <ncurses.h>
+#include <stdio.h>
+#include <sys/select.h>
+#include <unistd.h>
 
-enum { ESCAPE_MILLISECONDS = 60, PARAMETER_MOST = 9999 };
+#include "window.h"
 
-static bool resize_waits; /* a resize came amid a sequence, and is told after it */
+/* The codes that ncurses is told to give; its own end at KEY_MAX. */
+enum { OWN_CODES = KEY_MAX + 1, SOON_MILLISECONDS = 50 };
 
-/* The next byte of a sequence, or -1 where none follows at once. */
-static int follower(void)
+/* Keys as terminals send them by default: some do so although their description says otherwise. */
+static void define_plain_keys(void)
 {
-    unsigned char byte;
-    enum waited waited = terminal_wait(ESCAPE_MILLISECONDS, &byte);
-    while (waited == WAITED_RESIZE) {
-        resize_waits = true;
-        waited = terminal_wait(ESCAPE_MILLISECONDS, &byte);
-    }
-    return waited == WAITED_BYTE ? byte : -1;
+    static const struct {
+        const char *bytes;
+        int code;
+    } plain[] = {
+        {"\033[A", KEY_UP}, {"\033[B", KEY_DOWN}, {"\033[C", KEY_RIGHT}, {"\033[D", KEY_LEFT},
+        {"\033[H", KEY_HOME}, {"\033[F", KEY_END}, {"\033[1~", KEY_HOME}, {"\033[4~", KEY_END},
+        {"\033[7~", KEY_HOME}, {"\033[8~", KEY_END}, {"\033[3~", KEY_DC},
+        {"\033[5~", KEY_PPAGE}, {"\033[6~", KEY_NPAGE},
+        {"\033[11~", KEY_F(1)}, {"\033[12~", KEY_F(2)}, {"\033[13~", KEY_F(3)}, {"\033[14~", KEY_F(4)},
+        {"\033[200~", OWN_CODES + K_PASTE_BEGIN}, {"\033[201~", OWN_CODES + K_PASTE_END},
+    };
+    for (size_t i = 0; i < sizeof plain / sizeof *plain; i++)
+        if (key_defined(plain[i].bytes) <= 0)
+            define_key(plain[i].bytes, plain[i].code);
 }
 
-/* ESC [ number ~ */
-static int tilde_key(int number)
+void keys_define(void)
 {
-    switch (number) {
-    case 1: case 7: return KEY_HOME;
-    case 4: case 8: return KEY_END;
-    case 3: return KEY_DELETE;
-    case 5: return KEY_PAGE_UP;
-    case 6: return KEY_PAGE_DOWN;
-    case 21: return KEY_F10;
-    case 200: return KEY_PASTE_BEGIN;
-    case 201: return KEY_PASTE_END;
-    default: return number >= 11 && number <= 14 ? KEY_F1 + number - 11 : KEY_UNKNOWN;
+    static const int scrolls[] = {K_SCROLL_UP, K_SCROLL_DOWN, K_SCROLL_RIGHT, K_SCROLL_LEFT};
+    char bytes[32];
+    define_plain_keys();
+    for (int modifier = 2; modifier <= 8; modifier++)
+        for (int i = 0; i < 4; i++) {
+            snprintf(bytes, sizeof bytes, "\033[1;%d%c", modifier, 'A' + i);
+            define_key(bytes, OWN_CODES + scrolls[i]);
+        }
+}
+
+static int special_key(int code)
+{
+    if (code >= KEY_F(1) && code <= KEY_F(10))
+        return K_F1 + code - KEY_F(1);
+    if (code >= OWN_CODES)
+        return code <= OWN_CODES + K_HANG_UP ? code - OWN_CODES : K_UNKNOWN;
+    switch (code) {
+    case KEY_UP: return K_UP;
+    case KEY_DOWN: return K_DOWN;
+    case KEY_RIGHT: return K_RIGHT;
+    case KEY_LEFT: return K_LEFT;
+    case KEY_HOME: return K_HOME;
+    case KEY_END: return K_END;
+    case KEY_DC: return K_DELETE;
+    case KEY_PPAGE: return K_PAGE_UP;
+    case KEY_NPAGE: return K_PAGE_DOWN;
+    case KEY_BACKSPACE: return K_BACKSPACE;
+    case KEY_ENTER: return K_ENTER;
+    case KEY_RESIZE: return K_RESIZE;
+    default: return K_UNKNOWN;
     }
 }
 
-/* The letter that ends ESC [ .. or follows ESC O. */
-static int letter_key(int letter, bool modified)
+/* An Escape by itself, also before another key; or the bytes of a key that nobody knows, which are dropped. */
+static int escape_key(void)
 {
-    if (letter >= 'A' && letter <= 'D')
-        return (modified ? KEY_SCROLL_UP : KEY_UP) + letter - 'A';
-    if (letter >= 'P' && letter <= 'S')
-        return KEY_F1 + letter - 'P';
-    return letter == 'H' ? KEY_HOME : letter == 'F' ? KEY_END : KEY_UNKNOWN;
+    int code = getch();
+    if (code == ERR)
+        return K_ESCAPE;
+    if (code == K_ESCAPE || code >= 256) {
+        ungetch(code);
+        return K_ESCAPE;
+    }
+    if (code == '[' || code == 'O')
+        do
+            code = getch();
+        while (code >= 0x20 && code <= 0x3F);
+    return K_UNKNOWN;
 }
 
-/* After ESC [: numbers parted by semicolons, then the byte that ends the sequence. */
-static int bracket_key(void)
+static int key_of(int code)
 {
-    int numbers[2] = {0, 0}, at = 0, byte = follower();
-    if (byte == '[') { /* the console's F1 to F5 */
-        byte = follower();
-        return byte >= 'A' && byte <= 'D' ? KEY_F1 + byte - 'A' : KEY_UNKNOWN;
-    }
-    for (; byte >= 0x20 && byte <= 0x3F; byte = follower()) {
-        if (byte == ';')
-            at++;
-        else if (byte >= '0' && byte <= '9' && at < 2 && numbers[at] < PARAMETER_MOST)
-            numbers[at] = 10 * numbers[at] + byte - '0';
-    }
-    return byte == '~' ? tilde_key(numbers[0]) : byte < 0 ? KEY_UNKNOWN : letter_key(byte, numbers[1] > 1);
+    if (code == 8)
+        return K_BACKSPACE;
+    if (code == K_ESCAPE)
+        return escape_key();
+    return code < 256 ? code : special_key(code);
 }
 
-int key_next(bool wait)
+/* Waits until a byte or a signal is there. Answers whether a byte, or the end of input, is. */
+static bool wait_for_input(void)
 {
-    unsigned char byte;
-    if (resize_waits) {
-        resize_waits = false;
-        return KEY_RESIZE;
+    fd_set keyboard;
+    sigset_t mask = window_waiting_mask();
+    FD_ZERO(&keyboard);
+    FD_SET(STDIN_FILENO, &keyboard);
+    return pselect(STDIN_FILENO + 1, &keyboard, NULL, NULL, NULL, &mask) > 0 || errno != EINTR;
+}
+
+int keys_next(bool wait)
+{
+    bool input = false;
+    int code = getch();
+    while (code == ERR && wait && !input) {
+        input = wait_for_input();
+        code = getch();
     }
-    switch (terminal_wait(wait ? -1 : 0, &byte)) {
-    case WAITED_RESIZE: return KEY_RESIZE;
-    case WAITED_NOTHING: return KEY_NONE;
-    case WAITED_END: return KEY_HANG_UP;
-    case WAITED_BYTE: break;
-    }
-    if (byte == '\n')
-        return KEY_ENTER;
-    if (byte == 8)
-        return KEY_BACKSPACE;
-    if (byte != KEY_ESCAPE)
-        return byte;
-    int next = follower();
-    if (next == '[')
-        return bracket_key();
-    if (next == 'O')
-        return letter_key(follower(), false);
-    return next < 0 || next == KEY_ESCAPE ? KEY_ESCAPE : KEY_UNKNOWN;
+    if (code == ERR)
+        return wait ? K_HANG_UP : K_NONE;
+    return key_of(code);
+}
+
+int keys_soon(void)
+{
+    timeout(SOON_MILLISECONDS);
+    int code = getch();
+    timeout(0);
+    return code == ERR ? K_NONE : key_of(code);
 }

@@ -33,12 +33,35 @@ bool row_set(struct row_text *row, const uint8_t *bytes, size_t length)
     return true;
 }
 
-size_t row_column(const struct row_text *row, size_t cell)
+/* The word that begins at a cell. */
+static struct word word_from(const struct row_text *row, size_t column, size_t first)
 {
-    size_t column = 1;
-    for (size_t i = 0; i < cell && i < row->length; i++)
-        column += row->bytes[i] == ' ';
-    return column;
+    const uint8_t *space = first < row->length ? memchr(row->bytes + first, ' ', row->length - first) : NULL;
+    return (struct word){column, first, space == NULL ? row->length : (size_t)(space - row->bytes)};
+}
+
+bool row_next_word(const struct row_text *row, struct word *word)
+{
+    if (word->end >= row->length)
+        return false;
+    *word = word_from(row, word->column + 1, word->end + 1);
+    return true;
+}
+
+struct word row_word_at(const struct row_text *row, size_t cell)
+{
+    struct word word = word_from(row, 1, 0);
+    while (word.end < cell && row_next_word(row, &word))
+        continue;
+    return word;
+}
+
+bool row_word_of(const struct row_text *row, size_t column, struct word *word)
+{
+    *word = word_from(row, 1, 0);
+    while (word->column < column && row_next_word(row, word))
+        continue;
+    return word->column == column;
 }
 
 void row_find_numbers(const struct row_text *row, struct row_numbers *numbers)
@@ -86,6 +109,21 @@ bool pin_text_take(struct pin_text *pins, const uint8_t *text, size_t length)
     for (int r = 0; r < ROWS; r++)
         row_set(&pins->rows[r], lines[r], lengths[r]);
     return true;
+}
+
+static bool row_same(const struct row_text *one, const struct row_text *other)
+{
+    return one->length == other->length && memcmp(one->bytes, other->bytes, one->length) == 0;
+}
+
+bool pin_text_same(const struct pin_text *one, const struct pin_text *other)
+{
+    return row_same(&one->rows[TOP_ROW], &other->rows[TOP_ROW]) && row_same(&one->rows[BOT_ROW], &other->rows[BOT_ROW]);
+}
+
+bool pin_text_empty(const struct pin_text *pins)
+{
+    return pins->rows[TOP_ROW].length == 0 && pins->rows[BOT_ROW].length == 0;
 }
 
 struct text_place pin_text_place(const struct pin_text *pins, size_t offset)

@@ -45,8 +45,17 @@ bool row_insert(struct row_text *row, size_t cell, uint8_t byte);
 bool row_remove(struct row_text *row, size_t cell);
 bool row_set(struct row_text *row, const uint8_t *bytes, size_t length);
 
-/* The column of the number that a cell belongs to, as far as spaces tell. */
-size_t row_column(const struct row_text *row, size_t cell);
+/* What stands between two spaces, be it nothing: cells `first` up to `end`, where the space or the row's end is. */
+struct word {
+    size_t column, first, end;
+};
+
+/* The word that a cell belongs to or ends, as far as spaces tell; and the word of a column, if the row goes so far. */
+struct word row_word_at(const struct row_text *row, size_t cell);
+bool row_word_of(const struct row_text *row, size_t column, struct word *word);
+
+/* Steps to the next word; answers whether there is one. */
+bool row_next_word(const struct row_text *row, struct word *word);
 
 /* Notes the cells of the first NUMBERS_MOST numbers, in a row that is well formed; `count` counts them all. */
 void row_find_numbers(const struct row_text *row, struct row_numbers *numbers);
@@ -56,6 +65,9 @@ size_t pin_text_compose(const struct pin_text *pins, uint8_t text[TEXT_MOST]);
 
 /* Takes both rows from a text of two labelled lines. Any other text is not taken, and no such text is a pin list. */
 bool pin_text_take(struct pin_text *pins, const uint8_t *text, size_t length);
+
+bool pin_text_same(const struct pin_text *one, const struct pin_text *other);
+bool pin_text_empty(const struct pin_text *pins);
 
 /* The cell that a byte of the text stands in. */
 struct text_place pin_text_place(const struct pin_text *pins, size_t offset);

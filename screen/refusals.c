@@ -3,17 +3,38 @@
 #include <stdio.h>
 #include <string.h>
 
-const char *refusal_word(uint32_t number)
+#include "refusals_table.h"
+
+static const struct refusal_text *entry_of(uint32_t number)
 {
-    static const char *const words[] = {
-        "too long", "short tray", "garbled", "too wide", "uneven", "high net", "lone pin", "tangled",
-        "torn", "bad field", "wrong board", "short", "open", "floating", "no blank",
-    };
-    return number < sizeof words / sizeof *words ? words[number] : "refused";
+    static const struct refusal_text unknown = {-1, "refused", "the library refused this at %p", ""};
+    for (size_t i = 0; i < REFUSALS_COUNT; i++)
+        if (refusals_table[i].number == (int)number)
+            return &refusals_table[i];
+    return &unknown;
 }
 
-/* The numbers of the rows while one refusal is explained. */
-static struct row_numbers numbers[ROWS];
+const char *refusal_word(uint32_t number)
+{
+    return entry_of(number)->word;
+}
+
+/* Copies a text of the table, the place put in for %p. */
+static void put_place(char words[WORDS_MOST], const char *text, uint32_t place)
+{
+    char digits[16];
+    size_t length = 0, count = (size_t)snprintf(digits, sizeof digits, "%u", place);
+    while (*text != '\0' && length + 1 < WORDS_MOST) {
+        if (text[0] == '%' && text[1] == 'p' && length + count < WORDS_MOST) {
+            memcpy(words + length, digits, count);
+            length += count;
+            text += 2;
+        } else {
+            words[length++] = *text++;
+        }
+    }
+    words[length] = '\0';
+}
 
 static void add_mark(struct finding *finding, int row, size_t column, size_t first, size_t last)
 {
@@ -21,55 +42,55 @@ static void add_mark(struct finding *finding, int row, size_t column, size_t fir
         finding->marks[finding->mark_count++] = (struct mark){row, column, first, last};
 }
 
-static void mark_number(struct finding *finding, int row, size_t column)
+static void mark_number(struct finding *finding, const struct row_numbers *numbers, int row, size_t column)
 {
     if (column >= 1 && column <= numbers[row].count && column <= NUMBERS_MOST)
         add_mark(finding, row, column, numbers[row].first[column - 1], numbers[row].last[column - 1]);
 }
 
-static void explain_garbled(const struct pin_text *pins, uint32_t offset, struct finding *finding)
+static void find_garbled(const struct pin_text *pins, uint32_t offset, struct finding *finding)
 {
     struct text_place at = pin_text_place(pins, offset);
     const struct row_text *row = &pins->rows[at.row];
-    add_mark(finding, at.row, row_column(row, at.cell), at.cell, at.cell);
+    size_t column = row_word_at(row, at.cell).column;
+    add_mark(finding, at.row, column, at.cell, at.cell);
     if (at.cell == row->length)
-        snprintf(finding->words, WORDS_MOST, "%s ends at byte %u, where a number is due", row_names[at.row], offset);
+        snprintf(finding->where, WORDS_MOST, "%s column %zu: the row ends where a number is due", row_names[at.row],
+                 column);
     else
-        snprintf(finding->words, WORDS_MOST,
-                 "byte %u does not belong there (%s, character %zu): one space, then a number without leading zeros",
-                 offset, row_names[at.row], at.cell + 1);
+        snprintf(finding->where, WORDS_MOST, "%s column %zu, character %zu of the row", row_names[at.row], column,
+                 at.cell + 1);
 }
 
-static void explain_too_wide(uint32_t column, struct finding *finding)
+static void find_too_wide(const struct row_numbers *numbers, uint32_t column, struct finding *finding)
 {
-    snprintf(finding->words, WORDS_MOST, "a row has more than %d columns (TOP %zu, BOT %zu)", CABJIRT_ROW,
-             numbers[TOP_ROW].count, numbers[BOT_ROW].count);
-    mark_number(finding, TOP_ROW, column);
-    mark_number(finding, BOT_ROW, column);
+    snprintf(finding->where, WORDS_MOST, "TOP has %zu, BOT %zu", numbers[TOP_ROW].count, numbers[BOT_ROW].count);
+    mark_number(finding, numbers, TOP_ROW, column);
+    mark_number(finding, numbers, BOT_ROW, column);
 }
 
-static void explain_uneven(const struct pin_text *pins, uint32_t column, struct finding *finding)
+static void find_uneven(const struct pin_text *pins, const struct row_numbers *numbers, uint32_t column,
+                        struct finding *finding)
 {
     int shorter = numbers[TOP_ROW].count < numbers[BOT_ROW].count ? TOP_ROW : BOT_ROW;
     size_t end = pins->rows[shorter].length;
-    snprintf(finding->words, WORDS_MOST, "the rows differ in length (TOP %zu, BOT %zu): %s has no number %u",
-             numbers[TOP_ROW].count, numbers[BOT_ROW].count, row_names[shorter], column);
+    snprintf(finding->where, WORDS_MOST, "TOP has %zu, BOT %zu", numbers[TOP_ROW].count, numbers[BOT_ROW].count);
     add_mark(finding, shorter, column, end, end);
-    mark_number(finding, 1 - shorter, column);
+    mark_number(finding, numbers, 1 - shorter, column);
 }
 
-/* Marks a pin position, and says its row and column. The rows are even wherever a position is given. */
-static void mark_position(uint32_t position, struct finding *finding, const char *before, const char *after)
+/* Marks a pin position. The rows are even wherever a position is given. */
+static void find_position(const struct row_numbers *numbers, uint32_t position, struct finding *finding)
 {
     size_t width = numbers[TOP_ROW].count;
     int row = position <= width ? TOP_ROW : BOT_ROW;
     size_t column = row == TOP_ROW ? position : position - width;
-    snprintf(finding->words, WORDS_MOST, "%s at %s column %zu (pin position %u) %s", before, row_names[row], column,
-             position, after);
-    mark_number(finding, row, column);
+    snprintf(finding->where, WORDS_MOST, "%s column %zu", row_names[row], column);
+    mark_number(finding, numbers, row, column);
 }
 
-static void explain_lone_pin(const struct pin_text *pins, uint32_t net, struct finding *finding)
+static void find_lone_pin(const struct pin_text *pins, const struct row_numbers *numbers, uint32_t net,
+                          struct finding *finding)
 {
     char digits[16];
     size_t length = (size_t)snprintf(digits, sizeof digits, "%u", net);
@@ -77,21 +98,17 @@ static void explain_lone_pin(const struct pin_text *pins, uint32_t net, struct f
         for (size_t k = 0; k < numbers[r].count && k < NUMBERS_MOST; k++) {
             size_t first = numbers[r].first[k], last = numbers[r].last[k];
             if (last - first + 1 == length && memcmp(pins->rows[r].bytes + first, digits, length) == 0) {
-                mark_number(finding, r, k + 1);
-                snprintf(finding->words, WORDS_MOST, "net %u has just one pin, at %s column %zu", net, row_names[r],
-                         k + 1);
+                mark_number(finding, numbers, r, k + 1);
+                snprintf(finding->where, WORDS_MOST, "%s column %zu", row_names[r], k + 1);
             }
         }
 }
 
-static void explain_tangled(const struct answer *answer, struct finding *finding)
+static void find_ring(const struct row_numbers *numbers, const struct answer *answer, struct finding *finding)
 {
-    uint32_t pairs = answer->verdict.place;
     for (int r = 0; r < ROWS; r++)
-        for (uint32_t i = 0; i < pairs && i < CABJIRT_RING / 2; i++)
-            mark_number(finding, r, answer->ring[2 * i + 1]);
-    snprintf(finding->words, WORDS_MOST,
-             "a ring of %u nets, each above the next, all the way round: no layout with one trunk a net exists", pairs);
+        for (uint32_t i = 0; i < answer->verdict.place && i < CABJIRT_RING / 2; i++)
+            mark_number(finding, numbers, r, answer->ring[2 * i + 1]);
 }
 
 void ring_words(const struct answer *answer, uint32_t pair, char words[WORDS_MOST])
@@ -101,27 +118,21 @@ void ring_words(const struct answer *answer, uint32_t pair, char words[WORDS_MOS
              answer->ring[2 * pair + 1]);
 }
 
-/* The refusals that have no cell of the rows. */
-static void explain_elsewhere(const struct answer *answer, const struct verdict *verdict, struct finding *finding)
+static void find_place(const struct pin_text *pins, const struct answer *answer, const struct verdict *verdict,
+                       struct finding *finding)
 {
-    uint32_t place = verdict->place;
-    char *words = finding->words;
+    struct row_numbers numbers[ROWS];
+    for (int r = 0; r < ROWS; r++)
+        row_find_numbers(&pins->rows[r], &numbers[r]);
     switch (verdict->number) {
-    case 0: snprintf(words, WORDS_MOST, "the input has more than %u bytes", place); break;
-    case 1: snprintf(words, WORDS_MOST, "a buffer is shorter than %u", place); break;
-    case 8: snprintf(words, WORDS_MOST, "the board file should be %u bytes long", place); break;
-    case 9:
-        if (place == 0)
-            snprintf(words, WORDS_MOST, "the board file's header has a width that is none, or its spare bit set");
-        else
-            snprintf(words, WORDS_MOST, "piece %u of the board file is out of range or of no kind", place);
-        break;
-    case 10:
-        snprintf(words, WORDS_MOST, "the board file is %u columns wide, the pin list %u", place, answer->width);
-        break;
-    case 13: snprintf(words, WORDS_MOST, "piece %u is joined to no pin", place); break;
-    case 14: snprintf(words, WORDS_MOST, "no stock blank has %u tracks", place); break;
-    default: snprintf(words, WORDS_MOST, "refusal %u at %u", verdict->number, place); break;
+    case 2: find_garbled(pins, verdict->place, finding); break;
+    case 3: find_too_wide(numbers, verdict->place, finding); break;
+    case 4: find_uneven(pins, numbers, verdict->place, finding); break;
+    case 5: case 11: case 12: find_position(numbers, verdict->place, finding); break;
+    case 6: find_lone_pin(pins, numbers, verdict->place, finding); break;
+    case 7: find_ring(numbers, answer, finding); break;
+    case 10: snprintf(finding->where, WORDS_MOST, "which is %u wide", answer->width); break;
+    default: break;
     }
 }
 
@@ -129,20 +140,11 @@ void refusal_explain(const struct pin_text *pins, const struct answer *answer, c
                      struct finding *finding)
 {
     finding->mark_count = 0;
-    finding->words[0] = '\0';
+    finding->meaning[0] = finding->where[0] = finding->remedy[0] = '\0';
     if (!verdict->refused)
         return;
-    for (int r = 0; r < ROWS; r++)
-        row_find_numbers(&pins->rows[r], &numbers[r]);
-    switch (verdict->number) {
-    case 2: explain_garbled(pins, verdict->place, finding); break;
-    case 3: explain_too_wide(verdict->place, finding); break;
-    case 4: explain_uneven(pins, verdict->place, finding); break;
-    case 5: mark_position(verdict->place, finding, "the net", "is over 511"); break;
-    case 6: explain_lone_pin(pins, verdict->place, finding); break;
-    case 7: explain_tangled(answer, finding); break;
-    case 11: mark_position(verdict->place, finding, "the pin", "is joined to an earlier pin of another net"); break;
-    case 12: mark_position(verdict->place, finding, "the pin", "is not joined to its net's first pin"); break;
-    default: explain_elsewhere(answer, verdict, finding); break;
-    }
+    const struct refusal_text *entry = entry_of(verdict->number);
+    put_place(finding->meaning, entry->meaning, verdict->place);
+    put_place(finding->remedy, entry->remedy, verdict->place);
+    find_place(pins, answer, verdict, finding);
 }

@@ -1,4 +1,5 @@
-/* refusals.h: the shop's refusals and faults in plain words, and the cells of the typed rows that they speak of. */
+/* refusals.h: the shop's refusals and faults in the words of the one table, and the cells of the typed rows that they
+ * speak of. */
 #ifndef CABJIRT_REFUSALS_H
 #define CABJIRT_REFUSALS_H
 
@@ -16,7 +17,8 @@ struct mark {
 };
 
 struct finding {
-    char words[WORDS_MOST];
+    char meaning[WORDS_MOST], remedy[WORDS_MOST]; /* as the table has them, with the place */
+    char where[WORDS_MOST];                       /* the place in the rows, or nothing */
     struct mark marks[MARKS_MOST];
     size_t mark_count;
 };

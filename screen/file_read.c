@@ -47,34 +47,3 @@ enum file_outcome file_read(const char *path, uint8_t *bytes, size_t limit, size
     close(fd);
     return outcome;
 }
-
-static bool write_all(int fd, const uint8_t *bytes, size_t length)
-{
-    while (length > 0) {
-        ssize_t put = write(fd, bytes, length);
-        if (put < 0 && errno == EINTR)
-            continue;
-        if (put < 0)
-            return false;
-        bytes += put;
-        length -= (size_t)put;
-    }
-    return true;
-}
-
-enum file_outcome file_write(const char *path, const uint8_t *bytes, size_t length, bool replace, const char **why)
-{
-    int fd = open(path, O_WRONLY | O_CREAT | O_NONBLOCK | O_NOCTTY | (replace ? O_TRUNC : O_EXCL), 0666);
-    if (fd < 0) {
-        *why = strerror(errno);
-        return errno == EEXIST && !replace ? FILE_EXISTS : FILE_FAILED;
-    }
-    bool written = write_all(fd, bytes, length);
-    int error = errno;
-    if (close(fd) != 0 && written) {
-        error = errno;
-        written = false;
-    }
-    *why = strerror(error);
-    return written ? FILE_DONE : FILE_FAILED;
-}

@@ -1,0 +1,24 @@
+/* columns.h: where the typed rows are shown. Words of the same column stand under each other, each at the right of its
+ * column, so that a pin stands over its copper in a drawing of the same columns. */
+#ifndef CABJIRT_COLUMNS_H
+#define CABJIRT_COLUMNS_H
+
+#include "pin_text.h"
+
+enum {
+    COLUMN_CELLS = 4,            /* a space and a number of three digits; a longer word takes as many fours as needed */
+    COLUMNS_MOST = ROW_LIMIT + 1 /* a row of spaces has this many words */
+};
+
+/* Column k takes the cells of the screen from edge[k - 1] up to edge[k]. */
+struct columns {
+    size_t count; /* the words of the longer row */
+    size_t edge[COLUMNS_MOST + 1];
+};
+
+void columns_lay(struct columns *columns, const struct pin_text *pins);
+
+/* Where a cell of a row is shown. The space after a word stands at the right edge of its column. */
+size_t columns_x(const struct columns *columns, const struct row_text *row, size_t cell);
+
+#endif

@@ -1,0 +1,108 @@
+#include "line_print.h"
+
+#include <stdio.h>
+#include <string.h>
+
+char printable(uint8_t byte)
+{
+    return byte >= 0x20 && byte <= 0x7E ? (char)byte : '?';
+}
+
+static void print_row_marks(const struct finding *finding, int row, char sign)
+{
+    char signs[ROW_LABEL + ROW_LIMIT + 1];
+    size_t end = 0;
+    memset(signs, ' ', sizeof signs);
+    for (size_t i = 0; i < finding->mark_count; i++) {
+        const struct mark *mark = &finding->marks[i];
+        for (size_t x = mark->first; mark->row == row && x <= mark->last; x++) {
+            signs[ROW_LABEL + x] = sign;
+            end = ROW_LABEL + x + 1 > end ? ROW_LABEL + x + 1 : end;
+        }
+    }
+    if (end > 0)
+        printf("%.*s\n", (int)end, signs);
+}
+
+static void print_rows(const struct order *order)
+{
+    print_row_marks(&order->finding, TOP_ROW, 'v');
+    for (int r = 0; r < ROWS; r++) {
+        const struct row_text *row = &order->pins.rows[r];
+        printf("%s ", row_names[r]);
+        for (size_t i = 0; i < row->length; i++)
+            putchar(printable(row->bytes[i]));
+        putchar('\n');
+    }
+    print_row_marks(&order->finding, BOT_ROW, '^');
+}
+
+static void print_cells(const char *gutter, const struct board_cell *cells, size_t count)
+{
+    size_t end = count, gutter_end = GUTTER;
+    while (end > 0 && cells[end - 1].ascii == ' ')
+        end--;
+    while (end == 0 && gutter_end > 0 && gutter[gutter_end - 1] == ' ')
+        gutter_end--;
+    printf("%.*s", (int)gutter_end, gutter);
+    for (size_t i = 0; i < end; i++)
+        putchar(cells[i].marked && cells[i].look != LOOK_PIN ? '#' : cells[i].ascii);
+    putchar('\n');
+}
+
+/* A sign over or under the pin of a marked position. */
+static void print_position_mark(const struct board_view *view, bool top, char sign)
+{
+    uint32_t position = view->marked_position;
+    if (position == 0 || (position <= view->width) != top)
+        return;
+    size_t cell = board_view_cell_of(view, top ? position : position - view->width);
+    printf("%*s%c\n", (int)(GUTTER + cell), "", sign);
+}
+
+static void print_drawing(const struct board_view *view)
+{
+    struct board_cell cells[DRAWING_MOST];
+    char gutter[GUTTER + 1];
+    size_t count = board_view_cells(view);
+    board_view_ruler(view, 0, count, cells);
+    print_cells("col  ", cells, count);
+    print_position_mark(view, true, 'v');
+    for (size_t line = 0; line < board_view_lines(view); line++) {
+        board_view_gutter(view, line, gutter);
+        board_view_line(view, line, 0, count, cells);
+        print_cells(gutter, cells, count);
+    }
+    print_position_mark(view, false, '^');
+}
+
+static void print_ring(const struct answer *answer)
+{
+    char words[WORDS_MOST];
+    for (uint32_t pair = 0; pair < answer->verdict.place; pair++) {
+        ring_words(answer, pair, words);
+        printf("%s\n", words);
+    }
+}
+
+bool print_order(const struct order *order)
+{
+    char text[MESSAGE_MOST], words[PIECE_WORDS];
+    struct board_view view;
+    const struct verdict *verdict = order_verdict(order);
+    print_rows(order);
+    order_summary(order, text);
+    printf("%s\n", text);
+    order_remedy(order, text);
+    if (text[0] != '\0')
+        printf("%s\n", text);
+    if (!order->judged.shown && verdict->refused && verdict->number == 7)
+        print_ring(&order->answer);
+    if (order_view(order, &view)) {
+        board_view_piece_words(&view, view.marked_piece, words);
+        if (words[0] != '\0')
+            printf("piece %u: %s\n", view.marked_piece, words);
+        print_drawing(&view);
+    }
+    return !verdict->refused;
+}

@@ -1,0 +1,13 @@
+/* line_print.h: an order printed as plain ASCII lines. */
+#ifndef CABJIRT_LINE_PRINT_H
+#define CABJIRT_LINE_PRINT_H
+
+#include "commands.h"
+
+/* A byte as it may be printed. */
+char printable(uint8_t byte);
+
+/* The list with its marks, the verdict, what to do, and the ring or the board. Answers whether nothing is refused. */
+bool print_order(const struct order *order);
+
+#endif

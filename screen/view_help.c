@@ -1,0 +1,33 @@
+#include "views.h"
+
+static const char *const help[] = {
+    "Digits, space   the net of each pin, one space between two; 0 for no pin",
+    "Tab Enter Up Dn the other row, same column",
+    "Left Right Home End Backspace Delete   in the row;  ^U clears it",
+    "F5 or ^_ undo   F6 or ^Y redo",
+    "F2 or ^O        load a pin list from a file",
+    "F3 or ^S        save the board file",
+    "F7 or ^W        save the pin list",
+    "F4 or ^G        judge a board file;  Esc back to the list's own board",
+    "^N              to the next mark",
+    "PgUp PgDn       scroll the drawing up and down",
+    "Ctrl-arrows     scroll rows and drawing",
+    "Tab             in a file name: complete it",
+    "^L redraw   ^Z stop   F10 ^Q or ^C quit",
+    "A paste of two lines fills both rows.",
+    "In the drawing: o joint, + crossing without a joint.",
+};
+
+/* Two lines are the most that an entry takes in the narrowest window. */
+size_t view_help(size_t first)
+{
+    size_t next = first, count = sizeof help / sizeof *help;
+    int y = LINE_TITLE + 2, end = paint_rows() - 1;
+    for (; next < count && y + 2 <= end; next++)
+        y = paint_lines(y, end, 1, help[next], STYLE_PLAIN);
+    paint_bar(LINE_TITLE, STYLE_BAR);
+    paint_text(LINE_TITLE, 0, paint_across(),
+               next < count ? " Keys; any key shows more." : " Keys; any key goes back to the list.", STYLE_BAR);
+    view_keys();
+    return next < count ? next : 0;
+}

@@ -1,0 +1,97 @@
+#include "views.h"
+
+/* Puts a glyph at a cell of rows and drawing, if it is among those shown. */
+static void put(const struct screen *screen, int y, size_t x, wchar_t glyph, enum style style)
+{
+    if (x >= screen->scroll_across && x - screen->scroll_across < view_cells())
+        paint_glyph(y, GUTTER + (int)(x - screen->scroll_across), glyph, style);
+}
+
+static bool is_marked(const struct finding *finding, int row, size_t cell)
+{
+    for (size_t i = 0; i < finding->mark_count; i++) {
+        const struct mark *mark = &finding->marks[i];
+        if (mark->row == row && cell >= mark->first && cell <= mark->last)
+            return true;
+    }
+    return false;
+}
+
+/* An empty list is not refused before anything is typed: it has no marks. */
+static bool has_marks(const struct order *order)
+{
+    return order->judged.shown || !pin_text_empty(&order->pins);
+}
+
+static void put_cell(const struct screen *screen, int row, int y, int marks_y, size_t cell, size_t x)
+{
+    const struct row_text *text = &screen->order->pins.rows[row];
+    uint8_t byte = cell < text->length ? text->bytes[cell] : ' ';
+    bool marked = has_marks(screen->order) && is_marked(&screen->order->finding, row, cell);
+    bool shows = byte >= 0x20 && byte <= 0x7E;
+    put(screen, y, x, shows ? byte : L'?', marked ? STYLE_MARK : shows ? STYLE_PLAIN : STYLE_BAD);
+    if (marked)
+        put(screen, marks_y, x, row == TOP_ROW ? L'v' : L'^', STYLE_BAD);
+}
+
+/* Signs beside the cells shown, that a row or its marks go on there. */
+static void put_signs(const struct screen *screen, int y, size_t first, size_t last, enum style style)
+{
+    if (first < screen->scroll_across)
+        paint_glyph(y, GUTTER - 1, L'<', style);
+    if (last >= screen->scroll_across + view_cells())
+        paint_glyph(y, GUTTER + (int)view_cells(), L'>', style);
+}
+
+static void put_mark_signs(const struct screen *screen, int row, int marks_y)
+{
+    const struct finding *finding = &screen->order->finding;
+    const struct row_text *text = &screen->order->pins.rows[row];
+    for (size_t i = 0; i < finding->mark_count && has_marks(screen->order); i++)
+        if (finding->marks[i].row == row) {
+            size_t x = columns_x(&screen->columns, text, finding->marks[i].first);
+            put_signs(screen, marks_y, x, x, STYLE_BAD);
+        }
+}
+
+void view_row(const struct screen *screen, int row, int y, int marks_y)
+{
+    const struct row_text *text = &screen->order->pins.rows[row];
+    const size_t *edge = screen->columns.edge;
+    struct word word = row_word_at(text, 0);
+    size_t end = screen->scroll_across + view_cells();
+    paint_text(y, 0, GUTTER, row_names[row], STYLE_STRONG);
+    do {
+        for (size_t cell = word.first; cell <= word.end && edge[word.column] >= screen->scroll_across; cell++)
+            put_cell(screen, row, y, marks_y, cell, edge[word.column] - (word.end - cell));
+    } while (edge[word.column] < end && row_next_word(text, &word));
+    if (text->length > 0)
+        put_signs(screen, y, columns_x(&screen->columns, text, 0), columns_x(&screen->columns, text, text->length - 1),
+                  STYLE_DIM);
+    put_mark_signs(screen, row, marks_y);
+}
+
+/* The number of a column at its right. Numbers of more than three digits stand over every other column. */
+static void put_column(const struct screen *screen, size_t column, size_t edge, enum style style)
+{
+    if (column > 999 && column % 2 == 1)
+        return;
+    for (size_t x = edge, number = column; number > 0 && x > 0; number /= 10)
+        put(screen, LINE_RULER, --x, (wchar_t)(L'0' + (int)(number % 10)), style);
+}
+
+void view_ruler(const struct screen *screen, const struct board_view *view)
+{
+    const struct editor *editor = &screen->editor;
+    const struct columns *columns = &screen->columns;
+    size_t here = row_word_at(&screen->order->pins.rows[editor->row], editor->cell).column;
+    size_t end = screen->scroll_across + view_cells(), last = columns->count;
+    if (view != NULL && view->width > last)
+        last = view->width;
+    paint_text(LINE_RULER, 0, GUTTER, "col", STYLE_DIM);
+    for (size_t k = 1, edge = 0; k <= last && edge < end + 2 * COLUMN_CELLS; k++) {
+        edge = k <= columns->count ? columns->edge[k] : edge + COLUMN_CELLS;
+        if (edge > screen->scroll_across)
+            put_column(screen, k, edge, k == here ? STYLE_BAR : STYLE_DIM);
+    }
+}

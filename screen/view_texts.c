@@ -1,0 +1,127 @@
+#include "views.h"
+
+#include <stdio.h>
+#include <string.h>
+
+#include "screen_view.h"
+
+/* The keys in the bottom line: as many as fit. */
+void view_keys(void)
+{
+    static const char *const keys[] = {
+        "F1 help", "^Q quit", "^O load", "^S save board", "^W save list", "^G judge", "F5 undo", "F6 redo",
+    };
+    int y = paint_rows() - 1, x = 1;
+    paint_bar(y, STYLE_BAR);
+    for (size_t i = 0; i < sizeof keys / sizeof *keys; i++)
+        if (x + (int)strlen(keys[i]) < paint_across())
+            x = paint_text(y, x, paint_across(), keys[i], STYLE_BAR) + 2;
+}
+
+/* Where only part of the board is in sight, which: at the right of the title, or in its place. */
+static void put_part(const struct screen *screen, const struct board_view *view, int title_end)
+{
+    char text[120];
+    size_t cells = view_cells(), lines = view_lines();
+    if (cells >= board_view_cells(view) && lines >= board_view_lines(view))
+        return;
+    size_t left = screen->scroll_across / COLUMN_CELLS + 1, right = (screen->scroll_across + cells) / COLUMN_CELLS;
+    right = right < view->width ? right : view->width;
+    int length = snprintf(text, sizeof text, "  columns %zu to %zu of %u ", left, right, view->width);
+    size_t high = view->tracks + 1 - (view_line_shown(screen, view, 1) + 1) / 2;
+    size_t low = view->tracks + 1 - view_line_shown(screen, view, lines - 2) / 2;
+    if (lines > 2 && lines < board_view_lines(view) && high >= low)
+        length = snprintf(text, sizeof text, "  columns %zu to %zu of %u, tracks %zu to %zu of %u ", left, right,
+                          view->width, high, low, view->tracks);
+    int x = paint_across() - length;
+    if (x < title_end)
+        paint_bar(LINE_TITLE, STYLE_BAR);
+    paint_text(LINE_TITLE, x > 0 ? x : 0, paint_across(), text, STYLE_BAR);
+}
+
+void view_title(const struct screen *screen, const struct board_view *view)
+{
+    paint_bar(LINE_TITLE, STYLE_BAR);
+    int x = paint_text(LINE_TITLE, 0, paint_across(), " Cabjirt order screen", STYLE_BAR);
+    if (order_is_unsaved(screen->order))
+        x = paint_text(LINE_TITLE, x, paint_across(), ": list not saved", STYLE_BAR);
+    if (view != NULL)
+        put_part(screen, view, x);
+}
+
+/* The verdict, broken between words; of a board that is judged also the marked piece, and what to do. An empty list is
+ * greeted and not refused. */
+void view_verdict(const struct screen *screen, const struct board_view *view)
+{
+    char text[MESSAGE_MOST], words[PIECE_WORDS];
+    const struct order *order = screen->order;
+    if (pin_text_empty(&order->pins) && !order->judged.shown) {
+        paint_lines(LINE_VERDICT, LINE_RULER, 0,
+                    "Type the TOP row's net numbers, Tab, then the BOT row's. F1 shows all keys.",
+                    STYLE_STRONG);
+        return;
+    }
+    order_summary(order, text);
+    int y = paint_lines(LINE_VERDICT, LINE_RULER, 0, text, order_verdict(order)->refused ? STYLE_BAD : STYLE_GOOD);
+    if (view == NULL || !order_verdict(order)->refused)
+        return;
+    board_view_piece_words(view, view->marked_piece, words);
+    y = paint_lines(y, LINE_RULER, 0, words, STYLE_PLAIN);
+    order_remedy(order, text);
+    paint_lines(y, LINE_RULER, 0, text, STYLE_PLAIN);
+}
+
+/* What to do about a refusal; and what a pin list is, while it has no board. */
+void view_hints(const struct screen *screen)
+{
+    static const char *const hints[] = {
+        "A pin list has two rows of the same length, of up to 512 columns.",
+        "Each number is the net of a pin, 1 to 511, or 0 where there is no pin.",
+        "One space parts two numbers.",
+        "Every net has two pins or more.",
+    };
+    char text[MESSAGE_MOST];
+    const struct order *order = screen->order;
+    int y = LINE_DRAWING, end = LINE_DRAWING + (int)view_lines();
+    if (order->judged.shown || !pin_text_empty(&order->pins)) {
+        order_remedy(order, text);
+        y = paint_lines(y, end, 2, text, STYLE_PLAIN) + 1;
+    }
+    for (size_t i = 0; i < sizeof hints / sizeof *hints && !order->judged.shown; i++)
+        y = paint_lines(y, end, 2, hints[i], STYLE_DIM);
+}
+
+void view_choices(const struct screen *screen)
+{
+    paint_lines(LINE_DRAWING, LINE_DRAWING + (int)view_lines(), 2, screen->prompt.choices, STYLE_PLAIN);
+}
+
+int view_message(const struct screen *screen)
+{
+    const struct prompt *prompt = &screen->prompt;
+    int y = paint_rows() - BOTTOM_LINES, across = paint_across();
+    if (prompt->kind == PROMPT_NONE) {
+        paint_text(y, 0, across, screen->order->message, screen->message_is_bad ? STYLE_BAD : STYLE_PLAIN);
+        return 0;
+    }
+    int x = paint_text(y, 0, across, prompt_question(prompt), STYLE_STRONG);
+    if (!prompt_wants_name(prompt))
+        return x;
+    const char *name = prompt->text;
+    size_t room = across > x + 1 ? (size_t)(across - x - 1) : 0;
+    if (prompt->length > room) /* of a long name its end is shown, from a whole character on */
+        name += prompt->length - room;
+    while (((unsigned char)*name & 0xC0) == 0x80)
+        name++;
+    return paint_text(y, x, across, name, STYLE_PLAIN);
+}
+
+void view_too_small(const struct screen *screen)
+{
+    char text[120];
+    snprintf(text, sizeof text, "Too small a window: %d by %d cells are needed, here are %d by %d.", ACROSS_LEAST,
+             ROWS_LEAST, paint_across(), paint_rows());
+    int y = paint_lines(0, paint_rows(), 0, text, STYLE_STRONG);
+    if (screen->prompt.kind == PROMPT_DISCARD_AND_QUIT)
+        paint_lines(y, paint_rows(), 0, prompt_question(&screen->prompt), STYLE_STRONG);
+}
