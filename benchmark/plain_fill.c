@@ -17,7 +17,7 @@ static size_t fill_order(const struct plain_rows *rows, const struct plain_spans
 }
 
 /* Marks each net that has a net without a track directly below it. */
-static void mark_blocked(const struct plain_rows *rows, const uint32_t tracks[PLAIN_NETS], uint32_t marks[PLAIN_NETS])
+static void mark_blocked(const struct plain_rows *rows, const uint32_t tracks[PLAIN_NETS], uint8_t marks[PLAIN_NETS])
 {
     memset(marks, 0, PLAIN_NETS * sizeof *marks);
     for (size_t i = 0; i < rows->width; i++) {
@@ -29,7 +29,7 @@ static void mark_blocked(const struct plain_rows *rows, const uint32_t tracks[PL
 
 /* One scan of the nets left for track k: those placed get the track, the others move to the front. Answers how many
  * are left. */
-static size_t scan_track(const struct plain_spans *spans, const uint32_t marks[PLAIN_NETS], uint32_t left[PLAIN_NETS],
+static size_t scan_track(const struct plain_spans *spans, const uint8_t marks[PLAIN_NETS], uint32_t left[PLAIN_NETS],
                          size_t count, uint32_t tracks[PLAIN_NETS], uint32_t k)
 {
     uint32_t end = 0;
@@ -91,7 +91,8 @@ static int show_ring(const struct plain_rows *rows, const uint32_t tracks[PLAIN_
 int plain_fill(const struct plain_rows *rows, const struct plain_spans *spans, uint32_t tracks[PLAIN_NETS],
                uint32_t *ring)
 {
-    uint32_t left[PLAIN_NETS], marks[PLAIN_NETS];
+    uint32_t left[PLAIN_NETS];
+    uint8_t marks[PLAIN_NETS];
     int done = 0;
     memset(tracks, 0, PLAIN_NETS * sizeof *tracks);
     size_t count = fill_order(rows, spans, left);
