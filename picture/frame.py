@@ -4,8 +4,8 @@ A frame without tracks has its two pin rows one tall step apart.
 """
 import textwrap
 
-from legend import draw_legend
-from svg import Sheet, dashes, digits_wide
+from picture.legend import draw_legend
+from picture.svg import Sheet, dashes, digits_wide
 
 NARROWEST = 640  # the width of a sheet at which legend and caption still read well
 COLUMN_STEPS = ((14, 48), (28, 36), (56, 24), (110, 16), (220, 12))

@@ -1,7 +1,7 @@
 """Picture of a text that is no pin list: the line with the byte that does not belong, byte by byte."""
-from frame import NARROWEST, finished
-from scenes import status_of
-from svg import Sheet
+from picture.frame import NARROWEST, finished
+from picture.scenes import status_of
+from picture.svg import Sheet
 
 BEFORE, AFTER = 24, 12  # how many bytes of the line are shown around the marked one
 CELL, TALL, MARGIN = 16, 26, 24

@@ -1,5 +1,5 @@
 """The legend: a sample of each kind of shape in the picture, with its words, in as many lines as the sheet needs."""
-from svg import dashes, words_wide
+from picture.svg import dashes, words_wide
 
 WORDS = {
     "trunk": "trunk side",

@@ -1,18 +1,17 @@
 """Pictures of a board: its copper over the channel's pins, with a fault marked if the judge found one."""
-from frame import Frame
-from inputs import board_of, piece_of
-from svg import dashes
+from command.boardfile import board_of, described, piece_of
+from command.refusals import read_table
+from picture.frame import Frame
+from picture.svg import dashes
 
 COPPER = ["trunk", "branch", "contact", "crossing", "pin"]
-WORDS = {0: "too long", 2: "garbled", 3: "too wide", 4: "uneven", 5: "high net", 6: "lone pin", 7: "tangled", 8: "torn",
-         9: "bad field", 10: "wrong board", 11: "short", 12: "open", 13: "floating"}
 
 
 def status_of(verdict):
     """The judge's or router's line, with the shop's word."""
     if verdict.word == "GOOD":
         return "GOOD"
-    return f"REFUSED {verdict.number} {verdict.place}: {WORDS.get(verdict.number, 'refused')}"
+    return f"REFUSED {verdict.number} {verdict.place}: {read_table()[verdict.number].word}"
 
 
 def title_of(board, facts):
@@ -23,17 +22,6 @@ def title_of(board, facts):
     if facts.tracks != board.tracks:
         blank = f" (the router fills {facts.tracks}, blank {facts.blank})"
     return f"width {board.width} · tracks {board.tracks}{blank} · density {facts.density} · chain {facts.chain}"
-
-
-def described(piece):
-    """A piece in words, also one out of range."""
-    if piece.kind == "trunk":
-        return f"trunk, track {piece.line}, columns {piece.start} to {piece.end}"
-    if piece.kind == "branch":
-        return f"branch, column {piece.line}, rows {piece.start} to {piece.end}"
-    if piece.kind == "contact" and piece.start == piece.end:
-        return f"contact, column {piece.line}, track {piece.start}"
-    return f"{piece.kind}, line {piece.line}, from {piece.start}, to {piece.end}"
 
 
 def ends_of(frame, piece):

@@ -151,7 +151,7 @@ def check_ring(name, answer, pins):
 
 def check_rows(name, answer, columns, marks):
     """Rows with the refused places marked."""
-    check(f"{name}: status", answer[0] == 1 and answer[2].count(b"\n") == 1)
+    check(f"{name}: status", answer[0] == 1 and answer[2].count(b"\n") == 2)
     sheet = sheet_of(name, answer)
     check(f"{name}: columns", sheet.columns == columns)
     check(f"{name}: marks", boxed(sheet) == marks)

@@ -1,8 +1,8 @@
 """Pictures of a refused pin list: a tangled one with its ring, or rows with the refused place marked."""
-from frame import Frame, labelled
-from legend import draw_arrow
-from scenes import status_of
-from svg import dashes, words_wide
+from picture.frame import Frame, labelled
+from picture.legend import draw_arrow
+from picture.scenes import status_of
+from picture.svg import dashes, words_wide
 
 WIDEST = 512
 PAIRS_SPELT = 12

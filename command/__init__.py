@@ -1,0 +1,1 @@
+"""The command `channel`: pin list in; listing, board file, judgement and picture out."""

@@ -1,0 +1,44 @@
+"""The lines that the proved programs write, taken apart. Only a whole output of a known form is an answer."""
+import re
+from collections import namedtuple
+
+NUMBER = rb"(0|[1-9][0-9]{0,9})"
+GOOD = re.compile(rb"GOOD " + NUMBER + rb"\n")
+REFUSED = re.compile(rb"REFUSED " + NUMBER + rb" " + NUMBER + rb"\n(?:RING " + NUMBER + rb" " + NUMBER + rb"\n)*")
+NET = rb"NET " + rb" ".join([NUMBER] * 4) + rb"\n"
+LISTING = re.compile(
+    rb"BOARD " + rb" ".join([NUMBER] * 3) + rb"\nBOUND " + NUMBER + rb" " + NUMBER + rb"\n(?:" + NET + rb")*"
+    rb"END " + NUMBER + rb"\n")
+HIGHEST = 14  # of the refusals and faults
+
+Facts = namedtuple("Facts", "width tracks blank density chain pieces")
+# word is GOOD or REFUSED; place is the tracks of a good board; ring has pairs of net and column
+Verdict = namedtuple("Verdict", "word number place ring")
+
+
+def numbers_of(match, *groups):
+    return [int(match.group(at)) for at in groups]
+
+
+def refusal_of(output):
+    """The refusal or fault that an output is, or None. Only refusal 7 has a ring, with as many pairs as it says."""
+    match = REFUSED.fullmatch(output)
+    if match is None:
+        return None
+    number, place = numbers_of(match, 1, 2)
+    ring = tuple(tuple(map(int, line.split()[1:])) for line in output.splitlines()[1:])
+    if number > HIGHEST or len(ring) != (place if number == 7 else 0):
+        return None
+    return Verdict("REFUSED", number, place, ring)
+
+
+def verdict_of(output):
+    """GOOD and its tracks, or a refusal; None for any other output."""
+    match = GOOD.fullmatch(output)
+    return Verdict("GOOD", 0, int(match.group(1)), ()) if match else refusal_of(output)
+
+
+def facts_of(output):
+    """What a listing says of its board; None for any other output."""
+    match = LISTING.fullmatch(output)
+    return Facts(*numbers_of(match, 1, 2, 3, 4, 5, match.re.groups)) if match else None

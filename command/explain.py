@@ -1,0 +1,111 @@
+"""A refusal or fault in words for people: what is wrong and where, and what to do about it."""
+from command import boardfile, slips
+from command.copper import Copper
+from command.pinlist import SIDES, place_words, rows_of, side_and_column
+from command.refusals import filled, read_table
+
+PAIRS_SPELT = 12
+LONGEST_NUMBER = 12
+
+
+def meaning_of(verdict):
+    """What a refusal means, by the table alone."""
+    return filled(read_table()[verdict.number].meaning, verdict.place)
+
+
+def explained(verdict, pins, board=b"", pins_name="the pin list", board_name="the board file"):
+    """Two sentences, without their full stops: what it means, with its place; and the remedy."""
+    meaning, remedy = meaning_of(verdict), filled(read_table()[verdict.number].remedy, verdict.place)
+    more = DETAILS.get(verdict.number, no_detail)(verdict.place, pins, board, verdict)
+    about = board_name if verdict.number >= 8 or (verdict.number == 0 and len(pins) <= verdict.place) else pins_name
+    return f"{about}: {meaning}" + (f"; {more}" if more else ""), remedy
+
+
+def cut(number):
+    """A number as a message shows it: one that is far too long is cut off."""
+    return number if len(number) <= LONGEST_NUMBER else f"{number[:LONGEST_NUMBER]}.. ({len(number)} digits)"
+
+
+def no_detail(_place, _pins, _board, _verdict):
+    return ""
+
+
+def garbled(place, pins, _board, _verdict):
+    line, column = slips.line_and_column(pins, place)
+    return f"at line {line}, column {column} {slips.standing(pins, place)}: {slips.likely_slip(pins, place)}"
+
+
+def too_wide(_place, pins, _board, _verdict):
+    return "TOP has {} numbers, BOT {}".format(*map(len, rows_of(pins)))
+
+
+def uneven(_place, pins, _board, _verdict):
+    top, bot = map(len, rows_of(pins))
+    shorter, longer = SIDES if top < bot else SIDES[::-1]
+    return f"{shorter} has {min(top, bot)}, {longer} {max(top, bot)}, so {shorter} is shorter by {abs(top - bot)}"
+
+
+def high_net(place, pins, _board, _verdict):
+    top, bot = rows_of(pins)
+    return f"{cut((top + bot)[place - 1])} stands at {place_words(place, len(top))}"
+
+
+def lone_pin(place, pins, _board, _verdict):
+    top, bot = rows_of(pins)
+    return f"it stands at {place_words((top + bot).index(str(place)) + 1, len(top))}"
+
+
+def tangled(_place, _pins, _board, verdict):
+    """The ring, each net above the next; a long one is cut short."""
+    ring = verdict.ring
+    steps = [f"net {net} above net {lower} in column {column}"
+             for (net, column), (lower, _) in zip(ring, ring[1:] + ring[:1])]
+    if len(steps) > PAIRS_SPELT:
+        steps[PAIRS_SPELT:] = [f"and so on, {len(ring)} nets in all"]
+    return "the ring: " + ", ".join(steps)
+
+
+def torn(place, _pins, board, _verdict):
+    if len(board) < boardfile.HEADER:
+        return f"it has {len(board)} bytes, less than its header of 4"
+    pieces, much = boardfile.header_of(board)[2], len(board) - place
+    wrong = f"{much} too many" if much > 0 else f"{-much} too few"
+    return f"it has {len(board)}, {wrong}, for its header says {pieces} pieces"
+
+
+def bad_field(place, _pins, board, _verdict):
+    if place:
+        return f"it reads: {boardfile.described(boardfile.piece_of(board, place))}"
+    width, _, _, spare = boardfile.header_of(board)
+    return f"its width reads {width}, of 1 to 512" + (", and its spare bit is set" if spare else "")
+
+
+def wrong_board(_place, pins, _board, _verdict):
+    return f"the pin list has {len(rows_of(pins)[0])} columns"
+
+
+def short(place, pins, board, _verdict):
+    """Names both nets and both pins: the earlier one is the first of another net that is joined to this."""
+    (top, bot), copper = rows_of(pins), Copper(boardfile.board_of(board))
+    nets, width = top + bot, len(top)
+    here = copper.at_pin(*side_and_column(place, width))
+    for other in range(1, place):
+        if nets[other - 1] not in ("0", nets[place - 1]) and copper.at_pin(*side_and_column(other, width)) == here:
+            return (f"net {nets[place - 1]} at {place_words(place, width)} is joined to net {nets[other - 1]} at "
+                    f"{place_words(other, width)}")
+    return f"net {nets[place - 1]} at {place_words(place, width)}"
+
+
+def open_(place, pins, _board, _verdict):
+    top, bot = rows_of(pins)
+    net, width = (top + bot)[place - 1], len(top)
+    first = (top + bot).index(net) + 1
+    return f"net {net} at {place_words(place, width)} is not joined to its first pin at {place_words(first, width)}"
+
+
+def floating(place, _pins, board, _verdict):
+    return f"it is a {boardfile.described(boardfile.piece_of(board, place))}"
+
+
+DETAILS = {2: garbled, 3: too_wide, 4: uneven, 5: high_net, 6: lone_pin, 7: tangled, 8: torn, 9: bad_field,
+           10: wrong_board, 11: short, 12: open_, 13: floating}

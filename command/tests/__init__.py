@@ -1,0 +1,1 @@
+"""Tests of the command. Each names the slip that it shuts out."""

@@ -1,0 +1,63 @@
+"""One table of refusals: the C header, the pictures, the command and the manual have its words and no others."""
+import re
+import subprocess
+import tempfile
+import unittest
+from pathlib import Path
+
+from command import answers, refusals
+from command.explain import meaning_of
+from command.tests.workshop import ROOT
+from picture.scenes import status_of
+
+PRINTER = """
+#include <stdio.h>
+#include "refusals_table.h"
+int main(void)
+{
+    for (int i = 0; i < REFUSALS_COUNT; i++)
+        printf("%d\\t%s\\t%s\\t%s\\n", refusals_table[i].number, refusals_table[i].word, refusals_table[i].meaning,
+               refusals_table[i].remedy);
+}
+"""
+
+
+class Table(unittest.TestCase):
+    def setUp(self):
+        self.table = refusals.read_table()
+
+    def test_numbers_and_words(self):
+        self.assertEqual(list(self.table), list(range(answers.HIGHEST + 1)))
+        self.assertEqual(len({refusal.word for refusal in self.table.values()}), len(self.table))
+
+    def test_the_header_for_c_programs(self):
+        rows = re.findall(r"^ \* +(\d+)  (\S.*?)  +\S", (ROOT / "screen" / "channel.h").read_text(), re.MULTILINE)
+        self.assertEqual(rows, [(str(number), self.table[number].word) for number in list(self.table)[1:]])
+
+    def test_the_header_for_the_order_screen(self):
+        with tempfile.TemporaryDirectory() as folder:
+            room = Path(folder)
+            (room / "print.c").write_text(PRINTER)
+            subprocess.run(["python3", ROOT / "screen" / "make_refusals.py", room / "refusals_table.h"], check=True)
+            subprocess.run(["cc", "-std=c11", "-Wall", "-Wextra", "-Werror", "print.c", "-o", "print"], cwd=room,
+                           check=True)
+            printed = subprocess.run([room / "print"], stdout=subprocess.PIPE, check=True).stdout.decode()
+        self.assertEqual(printed, "".join(refusals.TABLE.read_text().splitlines(keepends=True)[1:]))
+
+    def test_a_header_that_cannot_be_written(self):
+        done = subprocess.run(["python3", ROOT / "screen" / "make_refusals.py", "/nowhere/at/all.h"],
+                              stderr=subprocess.PIPE, check=False)
+        self.assertEqual((done.returncode, done.stderr.count(b"\n")), (2, 1))
+
+    def test_the_pictures(self):
+        for number, refusal in self.table.items():
+            verdict = answers.Verdict("REFUSED", number, 5, ())
+            self.assertEqual(status_of(verdict), f"REFUSED {number} 5: {refusal.word}")
+            self.assertNotIn("%p", meaning_of(verdict))
+
+    def test_a_table_of_another_form(self):
+        for text in ("", "number\tword\tmeaning\tremedy\n1\ta\tb\tc\n", "number\tword\tmeaning\tremedy\n0\ta\tb\n"):
+            with tempfile.NamedTemporaryFile("w", suffix=".tsv") as file:
+                file.write(text)
+                file.flush()
+                self.assertRaises(refusals.BadTable, refusals.read_table, file.name)

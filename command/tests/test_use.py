@@ -1,0 +1,94 @@
+"""Words on the command line, help, version, links to the command, and outputs that can't be written."""
+import subprocess
+
+from command.tests.workshop import A, LISTED, ROOT, TANGLED, Workshop
+
+COMMANDS = ("make", "list", "board", "judge", "picture", "order")
+
+
+class Help(Workshop):
+    def test_help_is_on_standard_output(self):
+        for words in (("--help",), ("-h",), ("help",)):
+            done = self.run_channel(*words)
+            self.assertEqual((done.status, done.words), (0, ""))
+            for name in COMMANDS:
+                self.assertIn(f"channel {name} ".encode(), done.output)
+
+    def test_help_of_each_command(self):
+        for name in COMMANDS:
+            told = self.run_channel("help", name)
+            self.assertEqual((told.status, told.words), (0, ""))
+            self.assertTrue(told.output.startswith(f"usage: channel {name} ".encode()))
+            self.assertEqual(self.run_channel(name, "--help").output, told.output)
+
+    def test_version(self):
+        done = self.run_channel("--version")
+        self.assertEqual((done.status, done.output), (0, (ROOT / "VERSION").read_bytes()))
+        self.assertRegex(done.output.decode(), r"\Acabjirt \d+\.\d+\.\d+\nkit rattle-kit-\S+ logic [0-9a-f]{16}\n\Z")
+
+
+class WrongUse(Workshop):
+    def test_wrong_words(self):
+        self.put("board", self.board)
+        for words in ((), ("help", "none"), ("help", "list", "make"), ("none", "pins"), ("--none",), ("list",),
+                      ("list", "pins", "pins"), ("list", "--none", "pins"), ("make", "pins"), ("make", "-x", "board"),
+                      ("judge", "pins"), ("judge", "-", "-"), ("picture", "-", "-"), ("picture",),
+                      ("list", "none"), ("list", "."), ("judge", "pins", "none"), ("order", "a", "b"),
+                      ("--version", "x"), ("list", "-pins")):
+            with self.subTest(words):
+                done = self.run_channel(*words)
+                self.assertEqual((done.status, done.output), (2, b""))
+                self.assertEqual(done.words.count("\n"), 1)
+
+    def test_the_reason_is_told(self):
+        self.assertIn("cannot read none: No such file or directory", self.run_channel("list", "none").words)
+        self.assertIn("cannot read .: Is a directory", self.run_channel("list", ".").words)
+        self.assertIn("list has no option --none", self.run_channel("list", "--none", "pins").words)
+        self.assertIn("both be standard input", self.run_channel("judge", "-", "-").words)
+
+    def test_dashes(self):
+        self.put("-odd", A)
+        self.assertEqual(self.run_channel("list", "--", "-odd").output, LISTED)
+        self.assertEqual(self.run_channel("list", "./-odd").output, LISTED)
+
+
+class Links(Workshop):
+    def test_links_to_the_command(self):
+        (self.room / "one").symlink_to(self.home / "channel")
+        (self.room / "two").symlink_to("one")
+        for name in ("one", "two"):
+            self.assertEqual(self.run_channel("list", "pins", command=self.room / name).output, LISTED)
+
+
+class FullOutput(Workshop):
+    """A write that fails ends with 2 and says why."""
+
+    def full(self, *words):
+        with open("/dev/full", "wb") as full:
+            done = self.run_channel(*words, stdout=full)
+        self.assertEqual(done.status, 2, words)
+        self.assertIn("cannot write standard output: No space left on device", done.words)
+
+    def test_full(self):
+        self.put("board", self.board)
+        self.put("tangled", TANGLED)
+        for words in (("list", "pins"), ("board", "pins"), ("judge", "pins", "board"), ("picture", "pins"),
+                      ("list", "tangled"), ("make", "tangled", "new"), ("make", "pins", "-"), ("--help",),
+                      ("--version",)):
+            self.full(*words)
+
+    def test_a_reader_that_has_gone(self):
+        with subprocess.Popen(["true"], stdin=subprocess.PIPE) as gone:
+            gone.wait()
+            done = self.run_channel("list", "pins", stdout=gone.stdin)
+        self.assertEqual(done.status, 2)
+        self.assertIn("cannot write standard output", done.words)
+
+    def test_standard_error_that_is_full_changes_no_status(self):
+        self.put("tangled", TANGLED)
+        with open("/dev/full", "wb") as full:
+            done = subprocess.run([self.home / "channel", "list", "tangled"], cwd=self.room, stdout=subprocess.PIPE,
+                                  stderr=full, check=False)
+            self.assertEqual((done.returncode, done.stdout.splitlines()[0]), (1, b"REFUSED 7 2"))
+            done = subprocess.run([self.home / "channel", "list", "none"], cwd=self.room, stderr=full, check=False)
+            self.assertEqual(done.returncode, 2)

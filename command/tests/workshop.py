@@ -1,0 +1,80 @@
+"""A folder with the command as it is installed, whose programs a test may replace by wrong ones."""
+import compileall
+import os
+import shutil
+import subprocess
+import tempfile
+import unittest
+from pathlib import Path
+
+ROOT = Path(__file__).resolve().parent.parent.parent
+PROGRAMS = ("listing", "board_writer", "board_judge")
+A = b"TOP 0 1 2 3\nBOT 1 2 0 3\n"
+LISTED = b"BOARD 4 2 8\nBOUND 2 2\nNET 1 1 2 2\nNET 2 2 3 1\nNET 3 4 4 0\nEND 11\n"
+TANGLED = b"TOP 1 2\nBOT 2 1\n"
+OLD = b"what stood here before"
+
+
+class Done:
+    """How a run ended, what it wrote, and its lines for people."""
+
+    def __init__(self, done):
+        self.status, self.output, self.words = done.returncode, done.stdout, done.stderr.decode()
+
+
+def copy_command(folder):
+    """The command and what it imports, without the tests."""
+    for name in ("channel", "VERSION"):
+        shutil.copy(ROOT / name, folder / name)
+    for name in ("command", "picture"):
+        shutil.copytree(ROOT / name, folder / name, ignore=shutil.ignore_patterns("test*", "__pycache__"))
+
+
+def write_program(path, script):
+    path.unlink(missing_ok=True)
+    path.write_text(f"#!/bin/sh\n{script}\n", encoding="utf-8")
+    path.chmod(0o755)
+
+
+class Workshop(unittest.TestCase):
+    @classmethod
+    def setUpClass(cls):
+        cls.rooms = tempfile.TemporaryDirectory(prefix="channel-test-")
+        cls.addClassCleanup(cls.rooms.cleanup)
+        cls.home = Path(cls.rooms.name, "home")
+        cls.home.mkdir()
+        copy_command(cls.home)
+        compileall.compile_dir(cls.home, quiet=2)  # so that its many runs begin sooner
+        (cls.home / "bin").mkdir()
+        cls.board = subprocess.run([ROOT / "target" / "bin" / "board_writer"], input=A, stdout=subprocess.PIPE,
+                                   check=True).stdout
+
+    def setUp(self):
+        for name in PROGRAMS:
+            (self.home / "bin" / name).unlink(missing_ok=True)
+            shutil.copy(ROOT / "target" / "bin" / name, self.home / "bin" / name)
+        self.room = Path(tempfile.mkdtemp(dir=self.rooms.name))
+        self.pins = self.put("pins", A)
+
+    def put(self, name, data):
+        path = self.room / name
+        path.write_bytes(data)
+        return path
+
+    def fake(self, program, script):
+        write_program(self.home / "bin" / program, script)
+
+    def run_channel(self, *words, stdin=b"", command=None, **options):
+        """Runs the command in the test's room; its files for the judge go there too."""
+        options = {"stdout": subprocess.PIPE, "stderr": subprocess.PIPE, **options}
+        environment = dict(os.environ, TMPDIR=str(self.room), **options.pop("environment", {}))
+        if "stdin" not in options and not hasattr(stdin, "fileno"):
+            options["input"] = stdin
+        elif hasattr(stdin, "fileno"):
+            options["stdin"] = stdin
+        return Done(subprocess.run([command or self.home / "channel", *words], cwd=self.room, env=environment,
+                                   check=False, **options))
+
+    def files(self):
+        """What lies in the room, hidden files too."""
+        return sorted(path.name for path in self.room.iterdir())

@@ -1,0 +1,105 @@
+/* Measures how deep the stack of each entry goes: STACK entry bytes. Each runs in a thread whose stack was filled with
+ * one byte; what a thread that does nothing uses is taken off. The inputs are as large as may be. */
+#define _GNU_SOURCE
+#include <pthread.h>
+#include <stdio.h>
+#include <stdlib.h>
+#include <string.h>
+#include <sys/mman.h>
+
+#include <cabjirt.h>
+
+enum { STACK = 8 << 20, FILL = 0xa5, NETS = 511 };
+
+static char text[65536];
+static size_t text_length;
+static uint32_t top[CABJIRT_ROW], bot[CABJIRT_ROW], ring[CABJIRT_RING], scratch[CABJIRT_SCRATCH];
+static uint8_t board[CABJIRT_BOARD];
+static uint64_t answer;
+
+/* The chain of 511 nets with a pin in every place but one, the channel with the most pieces. */
+static void make_text(void)
+{
+    text_length = (size_t)sprintf(text, "TOP");
+    for (int c = 1; c <= CABJIRT_ROW; c++)
+        text_length += (size_t)sprintf(text + text_length, " %d", c <= NETS ? c : 1);
+    text_length += (size_t)sprintf(text + text_length, "\nBOT");
+    for (int c = 1; c <= CABJIRT_ROW; c++)
+        text_length += (size_t)sprintf(text + text_length, " %d", c < NETS ? c + 1 : 0);
+    text_length += (size_t)sprintf(text + text_length, "\n");
+}
+
+static void *nothing(void *unused) { return unused; }
+
+static void *reading(void *unused)
+{
+    answer = cabjirt_read((const uint8_t *)text, text_length, top, CABJIRT_ROW, bot, CABJIRT_ROW);
+    return unused;
+}
+
+static void *bounding(void *unused)
+{
+    answer = cabjirt_bounds(top, CABJIRT_ROW, bot, CABJIRT_ROW);
+    return unused;
+}
+
+static void *routing(void *unused)
+{
+    answer = cabjirt_route(top, CABJIRT_ROW, bot, CABJIRT_ROW, ring, CABJIRT_RING, board, CABJIRT_BOARD);
+    return unused;
+}
+
+static void *judging(void *unused)
+{
+    size_t pieces = (board[2] & 0x1f) << 7 | board[3] >> 1;
+    answer = cabjirt_judge(top, CABJIRT_ROW, bot, CABJIRT_ROW, board, 4 + 4 * pieces, scratch, CABJIRT_SCRATCH);
+    return unused;
+}
+
+static void *choosing(void *unused)
+{
+    answer = cabjirt_blank(512);
+    return unused;
+}
+
+/* How many bytes of its stack a thread changes. */
+static size_t depth(void *(*entry)(void *))
+{
+    pthread_t thread;
+    pthread_attr_t attributes;
+    unsigned char *stack = mmap(NULL, STACK, PROT_READ | PROT_WRITE, MAP_PRIVATE | MAP_ANONYMOUS, -1, 0);
+    if (stack == MAP_FAILED)
+        exit(2);
+    memset(stack, FILL, STACK);
+    if (pthread_attr_init(&attributes) != 0 || pthread_attr_setstack(&attributes, stack, STACK) != 0 ||
+        pthread_create(&thread, &attributes, entry, NULL) != 0 || pthread_join(thread, NULL) != 0)
+        exit(2);
+    size_t left = 0;
+    while (left < STACK && stack[left] == FILL)
+        left++;
+    munmap(stack, STACK);
+    return STACK - left;
+}
+
+int main(void)
+{
+    static const struct {
+        const char *name;
+        void *(*run)(void *);
+    } entries[] = {{"cabjirt_read", reading},
+                   {"cabjirt_bounds", bounding},
+                   {"cabjirt_route", routing},
+                   {"cabjirt_judge", judging},
+                   {"cabjirt_blank", choosing}};
+    make_text();
+    size_t without = depth(nothing);
+    for (size_t i = 0; i < sizeof entries / sizeof *entries; i++) {
+        size_t bytes = depth(entries[i].run) - without;
+        if (cabjirt_number(answer) != 0) {
+            fprintf(stderr, "%s refuses: %u %u\n", entries[i].name, cabjirt_number(answer), cabjirt_value(answer));
+            return 1;
+        }
+        printf("STACK %s %zu\n", entries[i].name, bytes);
+    }
+    return 0;
+}

@@ -1,0 +1,1 @@
+"""Pictures of a channel in SVG, drawn from what the proved programs answered."""

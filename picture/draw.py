@@ -1,0 +1,24 @@
+"""An SVG picture of a channel, from what the proved programs answered. No answer is found here."""
+from command.pinlist import rows_of
+from picture.garbled import draw_text
+from picture.refused import draw_ring, draw_rows
+from picture.scenes import draw_board, draw_pins_only
+
+
+def draw(text, facts, board, verdict, words):
+    """The picture that belongs to a verdict, as text.
+
+    The text is the pin list's; the facts are the listing's, or None where the list is refused; the board is a board
+    file's bytes. The verdict is the judge's, or the refusal where a board was wanted of a list that has none. The words
+    say what it means. A text over the limit is refused before its rows are known.
+    """
+    if verdict.number == 2 or (verdict.word == "REFUSED" and verdict.number == 0 and len(text) > verdict.place):
+        return draw_text(text, verdict, words)
+    rows = rows_of(text)
+    if 3 <= verdict.number <= 6:
+        return draw_rows(rows, verdict, words)
+    if verdict.number == 7:
+        return draw_ring(rows, verdict, words)
+    if verdict.word == "GOOD" or verdict.number > 10:
+        return draw_board(rows, board, facts, verdict, words)
+    return draw_pins_only(rows, board, verdict, words)
