@@ -78,12 +78,18 @@ static bool judge(struct order *order, const char *path, unsigned long number)
     return told(order, number, order_judge(order, path) == OUTCOME_DONE) && print_order(order);
 }
 
+/* Tells how a saving ended that writes over no file; `exists` says which command does. */
+static bool saved(struct order *order, enum outcome outcome, const char *exists, const char *path, unsigned long number)
+{
+    if (outcome == OUTCOME_EXISTS)
+        return complain(number, exists, path);
+    return told(order, number, outcome == OUTCOME_DONE);
+}
+
 static bool save(struct order *order, const char *path, unsigned long number)
 {
-    enum outcome outcome = order_save_board(order, path, false);
-    if (outcome == OUTCOME_EXISTS)
-        return complain(number, "the file exists, and only 'replace' writes over it: ", path);
-    return told(order, number, outcome == OUTCOME_DONE);
+    return saved(order, order_save_board(order, path, false), "the file exists, and only 'replace' writes over it: ",
+                 path, number);
 }
 
 static bool replace(struct order *order, const char *path, unsigned long number)
@@ -93,10 +99,8 @@ static bool replace(struct order *order, const char *path, unsigned long number)
 
 static bool save_pins(struct order *order, const char *path, unsigned long number)
 {
-    enum outcome outcome = order_save_pins(order, path, false);
-    if (outcome == OUTCOME_EXISTS)
-        return complain(number, "the file exists, and only 'replace-pins' writes over it: ", path);
-    return told(order, number, outcome == OUTCOME_DONE);
+    return saved(order, order_save_pins(order, path, false),
+                 "the file exists, and only 'replace-pins' writes over it: ", path, number);
 }
 
 static bool replace_pins(struct order *order, const char *path, unsigned long number)
