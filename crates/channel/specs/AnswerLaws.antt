@@ -12,15 +12,15 @@ use Rattle.lists.specs.Lists.{keep, upTo, headOr}
 use Rattle.lists.specs.Tests.{or-cases, or-left, or-right, not-passes, not-fails}
 use Rattle.lists.specs.Tallies.{firstOf, first-none, none-first}
 use Rattle.refusal.specs.declared.Refusal.{Refusal}
-use Rattle.refusal.specs.declared.Refusal.the-variants.{TooWide, Uneven, HighNet, LonePin}
+use Rattle.refusal.specs.declared.Refusal.the-variants.{TooWide, Uneven, HighNet}
 use Rattle.refusal.specs.Refusals.{refuseAtFirst, _or-else_}
 use Rattle.refusal.specs.ChainLaws.{none-refuse-if, some-refuse-if, none-refuse-at-first, none-or-else-later}
 use Rattle.refusal.specs.ChainLaws.{some-or-else, answered-none, answered-some}
 use Rattle.channel.specs.declared.RowsAnswer.the-variants as checking
-use Rattle.channel.specs.Channel.{Channel, positions, highestNet, widest, pinCount}
-use Rattle.channel.specs.Answers.{tooWide, uneven, highNet, lonePin, rowsRefusal, rowsAnswer}
-use Rattle.channel.specs.Rows.{firstHigh, tally, firstLone}
-use Rattle.channel.specs.RowLaws.{high, zeros, first-high-neither, lone-counted}
+use Rattle.channel.specs.Channel.{Channel, positions, widest}
+use Rattle.channel.specs.Answers.{tooWide, uneven, highNet, rowsRefusal, rowsAnswer}
+use Rattle.channel.specs.Rows.{firstHigh}
+use Rattle.channel.specs.RowLaws.{high, first-high-neither}
 
 -- a refusal at the first of the places that pass: silent if the first is 0, and at the first otherwise
 refuse-none : (r : ℕ → Refusal) (f : ℕ → Bool) (n : ℕ) → firstOf f n ≡ 0 → refuseAtFirst r (keep f (upTo n)) ≡ none
@@ -64,16 +64,16 @@ module _ (ch : Channel) where
   answer-wide h =
       let a = ltb widest (length (ch .top)) in
       let b = ltb widest (length (ch .bot)) in
-      refused (TooWide 513) (some-or-else (tooWide ch) (uneven ch or-else highNet ch or-else lonePin ch) (TooWide 513)
+      refused (TooWide 513) (some-or-else (tooWide ch) (uneven ch or-else highNet ch) (TooWide 513)
       (some-refuse-if (a || b) (TooWide 513) (⊎-elim (λ l. or-left a b (lt→ltb widest (length (ch .top)) l))
       (λ l. or-right a b (lt→ltb widest (length (ch .bot)) l)) h)))
 
-  past-wide : Narrow → rowsRefusal ch ≡ (uneven ch or-else highNet ch or-else lonePin ch)
+  past-wide : Narrow → rowsRefusal ch ≡ (uneven ch or-else highNet ch)
   unfolding rowsRefusal tooWide
   past-wide n =
       let a = ltb widest (length (ch .top)) in
       let b = ltb widest (length (ch .bot)) in
-      none-or-else-later (tooWide ch) (uneven ch or-else highNet ch or-else lonePin ch)
+      none-or-else-later (tooWide ch) (uneven ch or-else highNet ch)
       (none-refuse-if (a || b) (TooWide (suc widest))
       (λ t. ⊎-elim (λ k. let l = ltb→lt widest (length (ch .top)) k in omega arith)
       (λ k. let l = ltb→lt widest (length (ch .bot)) k in omega arith) (or-cases a b t)))
@@ -86,17 +86,17 @@ module _ (ch : Channel) where
       let b = eqb (length (ch .top)) 0 in
       let q = Uneven (suc (min (length (ch .top)) (length (ch .bot)))) in
       ap (λ (k : ℕ). checking.Refused (Uneven k)) e ∙ refused q
-      (past-wide n ∙ some-or-else (uneven ch) (highNet ch or-else lonePin ch) q
+      (past-wide n ∙ some-or-else (uneven ch) (highNet ch) q
       (some-refuse-if (not a || b) q (⊎-elim (λ o. or-left (not a) b
       (not-passes a (λ t. o (eqb→eq (length (ch .top)) (length (ch .bot)) t))))
       (λ z. or-right (not a) b (subst (λ (k : ℕ). T (eqb k 0)) (sym z) (eqb-refl 0))) h)))
 
-  past-uneven : Even → rowsRefusal ch ≡ (highNet ch or-else lonePin ch)
+  past-uneven : Even → rowsRefusal ch ≡ highNet ch
   unfolding uneven
   past-uneven s =
       let a = eqb (length (ch .top)) (length (ch .bot)) in
       let b = eqb (length (ch .top)) 0 in
-      past-wide (s .narrow) ∙ none-or-else-later (uneven ch) (highNet ch or-else lonePin ch)
+      past-wide (s .narrow) ∙ none-or-else-later (uneven ch) (highNet ch)
       (none-refuse-if (not a || b) _ (λ t. ⊎-elim (λ k.
       not-fails a k (subst (λ (m : ℕ). T (eqb (length (ch .top)) m)) (s .same) (eqb-refl (length (ch .top)))))
       (λ k. s .filled (eqb→eq (length (ch .top)) 0 k)) (or-cases (not a) b t)))
@@ -105,30 +105,12 @@ module _ (ch : Channel) where
       → checking.Refused (HighNet p) ≡ rowsAnswer ch
   unfolding highNet firstHigh
   answer-high s p e h =
-      refused (HighNet p) (past-uneven s ∙ some-or-else (highNet ch) (lonePin ch) (HighNet p)
-      (refuse-first HighNet (high (positions ch)) (length (positions ch)) (λ z. h (sym e ∙ z))
-      ∙ ap (λ (k : ℕ). some (HighNet k)) e))
+      refused (HighNet p) (past-uneven s ∙ (refuse-first HighNet (high (positions ch)) (length (positions ch))
+      (λ z. h (sym e ∙ z)) ∙ ap (λ (k : ℕ). some (HighNet k)) e))
 
-  past-high : Low → rowsRefusal ch ≡ lonePin ch
-  unfolding highNet firstHigh
-  past-high l =
-      past-uneven (l .even) ∙ none-or-else-later (highNet ch) (lonePin ch)
-      (refuse-none HighNet (high (positions ch)) (length (positions ch))
-      (first-high-neither (ch .top) (ch .bot) (l .top-low) (l .bot-low)))
-
-  -- p is the first net counted just once, where both rows are counted from nothing
-  module _ (l : Low) (p : ℕ) (counted : p ≡ firstLone (tally (ch .bot) (tally (ch .top) zeros))) where
-    first-lone : p ≡ firstOf (λ n. eqb (pinCount ch n) 1) highestNet
-    first-lone = counted ∙ lone-counted ch (l .top-low) (l .bot-low)
-
-    pub answer-lone : (p ≡ 0 → ⊥) → checking.Refused (LonePin p) ≡ rowsAnswer ch
-    unfolding lonePin
-    answer-lone h =
-        refused (LonePin p) (past-high l ∙ (refuse-first LonePin (λ n. eqb (pinCount ch n) 1) highestNet
-        (λ z. h (first-lone ∙ z)) ∙ ap (λ (k : ℕ). some (LonePin k)) (sym first-lone)))
-
-    pub answer-accepted : p ≡ 0 → checking.Accepted ≡ rowsAnswer ch
-    unfolding lonePin rowsAnswer
-    answer-accepted z =
-        sym (answered-none checking.Refused (rowsRefusal ch) checking.Accepted
-        (past-high l ∙ refuse-none LonePin (λ n. eqb (pinCount ch n) 1) highestNet (sym first-lone ∙ z)))
+  pub answer-accepted : Low → checking.Accepted ≡ rowsAnswer ch
+  unfolding rowsAnswer highNet firstHigh
+  answer-accepted l =
+      sym (answered-none checking.Refused (rowsRefusal ch) checking.Accepted
+      (past-uneven (l .even) ∙ refuse-none HighNet (high (positions ch)) (length (positions ch))
+      (first-high-neither (ch .top) (ch .bot) (l .top-low) (l .bot-low))))

@@ -1,4 +1,4 @@
--- 01, refusals 3 to 6 of rows, each with its place, and the answers of the operations on rows alone.
+-- 01, refusals 3 to 5 of rows, each with its place, and the answers of the operations on rows alone.
 use Prim.Native.Nat.{ℕ, suc, min, _≤_, _<_}
 use mathlib.Core.Path.{_≡_}
 use mathlib.Core.List.{[], _∷_}
@@ -8,13 +8,13 @@ use lib.ListN.{length}
 use lib.Dec.{ltb, eqb}
 use Rattle.lists.specs.Lists.{keep, upTo, at}
 use Rattle.refusal.specs.declared.Refusal.{Refusal}
-use Rattle.refusal.specs.declared.Refusal.the-variants.{TooWide, Uneven, HighNet, LonePin}
+use Rattle.refusal.specs.declared.Refusal.the-variants.{TooWide, Uneven, HighNet}
 use Rattle.refusal.specs.Refusals.{Told, toldRefusal, toldValues, refuseIf, refuseAtFirst, _or-else_, answered}
 use Rattle.channel.specs.declared.RowsAnswer.{RowsAnswer}
 use Rattle.channel.specs.declared.RowsAnswer.the-variants as checking
 use Rattle.channel.specs.declared.BoundsAnswer.{BoundsAnswer}
 use Rattle.channel.specs.declared.BoundsAnswer.the-variants as bounds
-use Rattle.channel.specs.Channel.{Channel, width, positions, highestNet, widest, pinCount}
+use Rattle.channel.specs.Channel.{Channel, width, positions, highestNet, widest}
 use Rattle.channel.specs.Density.{density}
 use Rattle.channel.specs.Constraints.{chain}
 
@@ -32,21 +32,16 @@ uneven ch =
 unfoldable pub highNet : Channel → Option Refusal
 highNet ch = refuseAtFirst HighNet (keep (λ p. ltb highestNet (at (positions ch) p)) (upTo (length (positions ch))))
 
--- 6: "a net with just one pin; lowest such net"
-unfoldable pub lonePin : Channel → Option Refusal
-lonePin ch = refuseAtFirst LonePin (keep (λ n. eqb (pinCount ch n) 1) (upTo highestNet))
-
--- 3 to 6, in rising number
+-- 3 to 5, in rising number
 unfoldable pub rowsRefusal : Channel → Option Refusal
-rowsRefusal ch = tooWide ch or-else uneven ch or-else highNet ch or-else lonePin ch
+rowsRefusal ch = tooWide ch or-else uneven ch or-else highNet ch
 
--- the channel escapes refusals 3 to 6
+-- the channel escapes refusals 3 to 5
 pub record Escapes (ch : Channel) : Type 0 where
   pub narrow : width ch ≤ widest
   pub even : length (ch .bot) ≡ width ch
   pub wide : 0 < width ch
   pub low : (c : ℕ) → (at (ch .top) c ≤ highestNet) × (at (ch .bot) c ≤ highestNet)
-  pub no-lone : (n : ℕ) → 0 < n → pinCount ch n ≡ 1 → ⊥
 
 -- what the check of rows answers
 unfoldable pub rowsAnswer : Channel → RowsAnswer
@@ -56,9 +51,12 @@ unfoldable pub rowsTold : RowsAnswer → Told
 rowsTold checking.Accepted = toldValues []
 rowsTold (checking.Refused r) = toldRefusal r
 
+abbrev pub boundsOf : Channel → BoundsAnswer
+boundsOf ch = bounds.Bounds (density ch) (chain ch)
+
 -- "Asked for bounds alone, a tangled channel answers its density and chain 0, not refusal 7"
 unfoldable pub boundsAnswer : Channel → BoundsAnswer
-boundsAnswer ch = answered bounds.Refused (rowsRefusal ch) (bounds.Bounds (density ch) (chain ch))
+boundsAnswer ch = answered bounds.Refused (rowsRefusal ch) (boundsOf ch)
 
 unfoldable pub boundsTold : BoundsAnswer → Told
 boundsTold (bounds.Bounds d k) = toldValues (d ∷ k ∷ [])

@@ -1,7 +1,8 @@
--- 01, "Pin list" and "Spans and constraints": a channel's rows, its nets, their pins and spans.
+-- 01, "Pin list" and "Spans and constraints", and 02, Req 04: a channel's rows, its parked pins, its nets, their pins
+-- and spans.
 use Prim.Native.Nat.{ℕ}
-use mathlib.Core.List.{List, _++_}
-use mathlib.Core.Bool.{Bool, _&&_, _||_}
+use mathlib.Core.List.{List, map, _++_}
+use mathlib.Core.Bool.{Bool, cond, _&&_, _||_}
 use lib.ListN.{length}
 use lib.Dec.{ltb, eqb}
 use Rattle.lists.specs.Lists.{keep, upTo, headOr, lastOr, at}
@@ -30,13 +31,33 @@ highestNet = 511
 abbrev pub widest : ℕ
 widest = 512
 
--- the number names a net that is routed: 0 means no pin. Every definition below asks here
+-- the pins that carry number n, counted
+unfoldable pub pinCount : Channel → ℕ → ℕ
+pinCount ch n = length (keep (eqb n) (positions ch))
+
+-- 02, Req 04: "A net with just one pin is parked"; 0 means no pin
+unfoldable pub isParked : Channel → ℕ → Bool
+isParked ch n = ltb 0 n && eqb (pinCount ch n) 1
+
+-- the number names a net that is routed: it has more than one pin. 02, Req 04: a parked one has "no record, no copper,
+-- no part in spans or the above relation". Every definition below asks here
 unfoldable pub isNet : Channel → ℕ → Bool
-isNet ch n = ltb 0 n
+isNet ch n = ltb 0 n && ltb 1 (pinCount ch n)
+
+-- "with the parked pins removed"
+unfoldable pub unlessParked : Channel → ℕ → ℕ
+unlessParked ch n = cond (isParked ch n) 0 n
+
+unfoldable pub withoutParked : Channel → Channel
+withoutParked ch = rows (map (unlessParked ch) (ch .top)) (map (unlessParked ch) (ch .bot))
+
+-- column c holds a pin of number n
+abbrev pub stands : Channel → ℕ → ℕ → Bool
+stands ch n c = eqb (at (ch .top) c) n || eqb (at (ch .bot) c) n
 
 -- column c holds a pin of net n
 abbrev pub hasPin : Channel → ℕ → ℕ → Bool
-hasPin ch n c = eqb (at (ch .top) c) n || eqb (at (ch .bot) c) n
+hasPin ch n c = isNet ch n && stands ch n c
 
 -- the columns that hold a pin of a net, rising
 unfoldable pub pinColumns : Channel → ℕ → List ℕ
@@ -49,17 +70,9 @@ firstColumn ch n = headOr 0 (pinColumns ch n)
 unfoldable pub lastColumn : Channel → ℕ → ℕ
 lastColumn ch n = lastOr 0 (pinColumns ch n)
 
--- the pins of a net, counted
-unfoldable pub pinCount : Channel → ℕ → ℕ
-pinCount ch n = length (keep (eqb n) (positions ch))
-
--- the number is a net's of this channel: it has a pin
-unfoldable pub holdsNet : Channel → ℕ → Bool
-holdsNet ch n = isNet ch n && ltb 0 (pinCount ch n)
-
 -- the nets, in rising number
 unfoldable pub nets : Channel → List ℕ
-nets ch = keep (holdsNet ch) (upTo highestNet)
+nets ch = keep (isNet ch) (upTo highestNet)
 
 -- "A net whose pins all stand in one column is straight and has no span and no trunk"
 unfoldable pub hasSpan : Channel → ℕ → Bool

@@ -9,7 +9,8 @@ use lib.Dec.{T, leb, eqb}
 use Rattle.lists.specs.Lists.{keep, upTo, headOr, greatest, at, Distinct}
 use Rattle.channel.specs.Channel.{Channel, width, isNet, nets, spanning}
 
--- "A column with TOP net a and BOT net b, both nonzero and different, puts a above b in that column"
+-- "A column with TOP net a and BOT net b, both nonzero and different, puts a above b in that column"; 02, Req 04: a
+-- parked pin has no part in it
 pub record Above (ch : Channel) (a b c : ℕ) : Type 0 where
   pub onTop : at (ch .top) c ≡ a
   pub onBot : at (ch .bot) c ≡ b
@@ -77,6 +78,6 @@ pub record Ring (ch : Channel) (steps : List Step) : Type 0 where
 abbrev pub Tangled : Channel → Type 0
 Tangled ch = (steps : List Step) × Ring ch steps
 
--- "Where no column holds pins of two different nets" (demand 3)
+-- "Where no column holds pins of two different nets" (demand 3); 02, Req 04: "parked pins are not counted"
 abbrev pub Unconstrained : Channel → Type 0
 Unconstrained ch = (a b c : ℕ) → Above ch a b c → ⊥

@@ -19,18 +19,18 @@ use Rattle.lists.specs.Places.{keep-keep, length-from}
 use Rattle.lists.specs.Tallies.{keep-same}
 use Rattle.lists.specs.Arrays.{length-map-from, getD-numbered, numbered-same, numbered-replicate}
 use Rattle.lists.specs.Updates.{map-same, set-gives, keep-next-passes, keep-next-fails, greatest-map-last}
-use Rattle.channel.specs.Channel.{Channel, width, highestNet, pinColumns, firstColumn, lastColumn, holdsNet}
+use Rattle.channel.specs.Channel.{Channel, width, highestNet, pinColumns, firstColumn, lastColumn, isNet}
 use Rattle.channel.specs.Channel.{nets, hasSpan, spanning}
 use Rattle.channel.specs.Constraints.{Above, above, Drop, drops, depth}
 use Rattle.channel.specs.Answers.{Escapes}
 use Rattle.channel.specs.Spans.{each512, firsts, lasts, depths}
+use Rattle.channel.specs.Parked.{NetsOnly}
 use Rattle.channel.specs.Depths.{filledTo, deeperOver, deepestTo}
-use Rattle.channel.specs.Laws.{above→, →above, net-positive, positive-net, PinIn, pin-column, counted→pin}
-use Rattle.channel.specs.Laws.{pin→counted, pin-in-first}
-use Rattle.channel.specs.SpanLaws.{holds→, →holds, spanning→}
+use Rattle.channel.specs.Laws.{above→, →above, net-positive, PinIn, pin-column, net→pin, pin-in-first}
+use Rattle.channel.specs.SpanLaws.{spanning→}
+use Rattle.channel.specs.ParkedLaws.{top-net, bot-net}
 use Rattle.channel.specs.PathLaws.{depth≤fuel}
 
--- tests that pass together are the same
 -- the count of filled numbers, one number further
 module _ (first : List ℕ) where
   pub filled-none : filledTo first 0 ≡ 0
@@ -81,8 +81,8 @@ module _ (first last depth : List ℕ) where
         (keep-next-fails (λ n. ltb (getD first n 0) (getD last n 0)) k
         (λ t. let l = ltb→lt (getD first (k + 1) 0) (getD last (k + 1) 0) t in absurd (omega arith)))
 
--- column k + 1, whose pins stand at place k of the rows: it puts its TOP net above its BOT net if both are nonzero and
--- different
+-- column k + 1, whose pins stand at place k of the rows: in rows that show nets only it puts its TOP net above its BOT
+-- net if both are nonzero and different
 pub at-next : (row : List ℕ) (k : ℕ) → at row (k + 1) ≡ getD row k 0
 at-next row k = ap (at row) (add-one k) ∙ at-suc row k
 
@@ -93,14 +93,14 @@ module _ (ch : Channel) (k : ℕ) where
   pub bot-low : Escapes ch → getD (ch .bot) k 0 ≤ highestNet
   bot-low esc = let e = at-next (ch .bot) k in let h = esc .low (k + 1) .1 in omega arith
 
-  pub stands-above : (getD (ch .top) k 0 ≡ 0 → ⊥) → (getD (ch .bot) k 0 ≡ 0 → ⊥)
+  pub stands-above : NetsOnly ch → (getD (ch .top) k 0 ≡ 0 → ⊥) → (getD (ch .bot) k 0 ≡ 0 → ⊥)
       → (getD (ch .top) k 0 ≡ getD (ch .bot) k 0 → ⊥) → Above ch (getD (ch .top) k 0) (getD (ch .bot) k 0) (k + 1)
-  stands-above t b apart =
+  stands-above only t b apart =
       record {
         onTop = at-next (ch .top) k;
         onBot = at-next (ch .bot) k;
-        upper = positive-net ch _ (omega (arith, t));
-        lower = positive-net ch _ (omega (arith, b));
+        upper = top-net only (k + 1) _ (at-next (ch .top) k) (omega (arith, t));
+        lower = bot-net only (k + 1) _ (at-next (ch .bot) k) (omega (arith, b));
         different = apart;
       }
 
@@ -207,34 +207,31 @@ column? ch n = go (pinColumns ch n) refl
     go (c ∷ cs) q = inl (c, pin-column ch n c (subst (λ (l : List ℕ). List·Memᴰ c l) (sym q) (List·Memᴰ·head refl)))
 
 module _ (ch : Channel) (esc : Escapes ch) where
-  net-test : (n c : ℕ) → 0 < n → PinIn ch n c → T (holdsNet ch n)
-  net-test n c h p = →holds ch n (positive-net ch n h) (pin→counted ch n c (esc .even) p)
-
   -- the numbers with a first column are the nets
   pub filled-nets : filledTo (firsts ch) highestNet ≡ length (nets ch)
   unfolding filledTo nets
-  filled-nets = ap length (keep-same (λ n. not (eqb (getD (firsts ch) n 0) 0)) (holdsNet ch) (upTo highestNet) tests)
+  filled-nets = ap length (keep-same (λ n. not (eqb (getD (firsts ch) n 0) 0)) (isNet ch) (upTo highestNet) tests)
     where
-      passes : (n : ℕ) → 0 < n → getD (firsts ch) n 0 ≡ firstColumn ch n → T (not (eqb (getD (firsts ch) n 0) 0))
-          → T (holdsNet ch n)
-      passes n h e t =
-          ⊎-elim (λ p. net-test n (p .0) h (p .1)) (λ z.
+      passes : (n : ℕ) → getD (firsts ch) n 0 ≡ firstColumn ch n → T (not (eqb (getD (firsts ch) n 0) 0))
+          → T (isNet ch n)
+      passes n e t =
+          ⊎-elim (λ p. p .1 .net) (λ z.
           absurd (not-fails (eqb (getD (firsts ch) n 0) 0) t (subst (λ (x : ℕ). T (eqb x 0)) (sym (e ∙ z .0)) tt)))
           (column? ch n)
 
-      passed : (n : ℕ) → getD (firsts ch) n 0 ≡ firstColumn ch n → T (holdsNet ch n)
+      passed : (n : ℕ) → getD (firsts ch) n 0 ≡ firstColumn ch n → T (isNet ch n)
           → T (not (eqb (getD (firsts ch) n 0) 0))
       passed n e t =
-          let p = counted→pin ch n (esc .even) (holds→ ch n t .1) in
+          let p = net→pin ch n (esc .even) t in
           let low = pin-in-first ch n (p .0) (p .1) .first in
           not-passes (eqb (getD (firsts ch) n 0) 0) (λ z. let q = eqb→eq (getD (firsts ch) n 0) 0 z in
           absurd (omega arith))
 
-      tests : (n : ℕ) → List·Memᴰ n (upTo highestNet) → not (eqb (getD (firsts ch) n 0) 0) ≡ (holdsNet ch n)
+      tests : (n : ℕ) → List·Memᴰ n (upTo highestNet) → not (eqb (getD (firsts ch) n 0) 0) ≡ (isNet ch n)
       tests n m =
           let r = upTo-member highestNet m in
           let e = getD-numbered (firstColumn ch) 512 n (omega arith) in
-          same-test _ _ (passes n (omega arith) e) (passed n e)
+          same-test _ _ (passes n e) (passed n e)
 
   -- a round over all columns makes the depths one net deeper
   one-deeper : (fuel n : ℕ) → deeperOver ch (depths fuel ch) (width ch) n ≡ depth (suc fuel) ch n
@@ -256,21 +253,21 @@ module _ (ch : Channel) (esc : Escapes ch) where
   spanning-numbers : keep (λ n. ltb (getD (firsts ch) n 0) (getD (lasts ch) n 0)) (upTo highestNet) ≡ spanning ch
   unfolding spanning nets hasSpan
   spanning-numbers =
-      keep-same (λ n. ltb (getD (firsts ch) n 0) (getD (lasts ch) n 0)) (λ n. holdsNet ch n && hasSpan ch n)
+      keep-same (λ n. ltb (getD (firsts ch) n 0) (getD (lasts ch) n 0)) (λ n. isNet ch n && hasSpan ch n)
       (upTo highestNet) tests
-      ∙ sym (keep-keep (hasSpan ch) (holdsNet ch) (upTo highestNet))
+      ∙ sym (keep-keep (hasSpan ch) (isNet ch) (upTo highestNet))
     where
       tests : (n : ℕ) → List·Memᴰ n (upTo highestNet)
-          → ltb (getD (firsts ch) n 0) (getD (lasts ch) n 0) ≡ (holdsNet ch n && hasSpan ch n)
+          → ltb (getD (firsts ch) n 0) (getD (lasts ch) n 0) ≡ (isNet ch n && hasSpan ch n)
       tests n m =
           let r = upTo-member highestNet m in
           let e = ap (λ (x : ℕ). ltb x (getD (lasts ch) n 0)) (getD-numbered (firstColumn ch) 512 n (omega arith))
           ∙ ap (ltb (firstColumn ch n)) (getD-numbered (lastColumn ch) 512 n (omega arith)) in
-          let inside : T (ltb (firstColumn ch n) (lastColumn ch n)) → T (holdsNet ch n) =
+          let inside : T (ltb (firstColumn ch n) (lastColumn ch n)) → T (isNet ch n) =
           λ t. let l = ltb→lt (firstColumn ch n) (lastColumn ch n) t in
-          ⊎-elim (λ p. net-test n (p .0) (omega arith) (p .1)) (λ z. absurd (omega arith)) (column? ch n) in
-          e ∙ same-test (hasSpan ch n) (holdsNet ch n && hasSpan ch n)
-          (λ t. and-both (holdsNet ch n) (hasSpan ch n) (inside t) t) (and-right (holdsNet ch n) (hasSpan ch n))
+          ⊎-elim (λ p. p .1 .net) (λ z. absurd (omega arith)) (column? ch n) in
+          e ∙ same-test (hasSpan ch n) (isNet ch n && hasSpan ch n)
+          (λ t. and-both (isNet ch n) (hasSpan ch n) (inside t) t) (and-right (isNet ch n) (hasSpan ch n))
 
   pub deepest-spanning : (fuel : ℕ) → deepestTo (firsts ch) (lasts ch) (depths fuel ch) highestNet ≡ greatest
       (map (depth fuel ch) (spanning ch))

@@ -1,9 +1,9 @@
--- The check of rows accepts exactly the channels that escape refusals 3 to 6.
-use Prim.Native.Nat.{ℕ, zero, suc, _+_, _-_, _≤_, _<_}
+-- The check of rows accepts exactly the channels that escape refusals 3 to 5.
+use Prim.Native.Nat.{ℕ, zero, suc, _+_, _-_, _≤_}
 use native.Mathlib.Omega.{arith}
 use native.Mathlib.Decide.{decLe}
 use mathlib.Core.Path.{_≡_, refl, sym, _∙_, subst}
-use mathlib.Core.Logic.{_↔_, _⊎_, ⊎-elim}
+use mathlib.Core.Logic.{_↔_, ⊎-elim}
 use mathlib.Core.Bool.{Bool, _||_, not}
 use mathlib.Core.Option.{none}
 use lib.ListN.{length, getD}
@@ -13,13 +13,13 @@ use Rattle.lists.specs.Tests.{or-cases, or-left, or-right, not-passes, not-fail
 use Rattle.lists.specs.Members.{upTo-member, in-upTo}
 use Rattle.lists.specs.Ends.{at-suc, at-inside}
 use Rattle.lists.specs.Ranges.{none-kept→fails, fails→none-kept}
-use Rattle.refusal.specs.declared.Refusal.the-variants.{HighNet, LonePin}
+use Rattle.refusal.specs.declared.Refusal.the-variants.{HighNet}
 use Rattle.refusal.specs.Refusals.{_or-else_}
 use Rattle.refusal.specs.ChainLaws.{or-else-none, none-or-else, refuse-if-none, none-refuse-if, refuse-at-first-none}
 use Rattle.refusal.specs.ChainLaws.{none-refuse-at-first}
-use Rattle.channel.specs.Channel.{Channel, width, positions, highestNet, widest, pinCount}
-use Rattle.channel.specs.Answers.{tooWide, uneven, highNet, lonePin, rowsRefusal, Escapes}
-use Rattle.channel.specs.Laws.{PinAmong, top-holds, bot-holds, Standing, on-top, on-bot, standing, counted→pin}
+use Rattle.channel.specs.Channel.{Channel, width, positions, highestNet, widest}
+use Rattle.channel.specs.Answers.{tooWide, uneven, highNet, rowsRefusal, Escapes}
+use Rattle.channel.specs.Laws.{PinAmong, top-holds, bot-holds, Standing, on-top, on-bot, standing}
 
 abbrev wideTest : Channel → Bool
 wideTest ch = ltb widest (length (ch .top)) || ltb widest (length (ch .bot))
@@ -30,46 +30,34 @@ unevenTest ch = not (eqb (length (ch .top)) (length (ch .bot))) || eqb (length (
 abbrev high : Channel → ℕ → Bool
 high ch p = ltb highestNet (at (positions ch) p)
 
-abbrev lone : Channel → ℕ → Bool
-lone ch n = eqb (pinCount ch n) 1
-
--- none of the four is said exactly if no test passes
+-- none of the three is said exactly if no test passes
 pub record Silent (ch : Channel) : Type 0 where
   pub notWide : T (wideTest ch) → ⊥
   pub notUneven : T (unevenTest ch) → ⊥
   pub notHigh : (p : ℕ) → 1 ≤ p → p ≤ length (positions ch) → T (high ch p) → ⊥
-  pub notLone : (n : ℕ) → 1 ≤ n → n ≤ highestNet → T (lone ch n) → ⊥
 
 silent→ : (ch : Channel) → rowsRefusal ch ≡ none → Silent ch
-unfolding rowsRefusal tooWide uneven highNet lonePin
+unfolding rowsRefusal tooWide uneven highNet
 silent→ ch h =
-    let a = or-else-none (tooWide ch) (uneven ch or-else highNet ch or-else lonePin ch) h in
-    let b = or-else-none (uneven ch) (highNet ch or-else lonePin ch) (a .1) in
-    let c = or-else-none (highNet ch) (lonePin ch) (b .1) in
+    let a = or-else-none (tooWide ch) (uneven ch or-else highNet ch) h in
+    let b = or-else-none (uneven ch) (highNet ch) (a .1) in
     record {
       notWide = refuse-if-none (wideTest ch) _ (a .0);
       notUneven = refuse-if-none (unevenTest ch) _ (b .0);
       notHigh = λ p h₁ h₂ t. none-kept→fails (high ch)
-          (refuse-at-first-none HighNet (keep (high ch) (upTo (length (positions ch)))) (c .0))
+          (refuse-at-first-none HighNet (keep (high ch) (upTo (length (positions ch)))) (b .1))
           (in-upTo (length (positions ch)) p h₁ h₂) t;
-      notLone = λ n h₁ h₂ t.
-          none-kept→fails (lone ch) (refuse-at-first-none LonePin (keep (lone ch) (upTo highestNet)) (c .1))
-          (in-upTo highestNet n h₁ h₂) t;
     }
 
 →silent : (ch : Channel) → Silent ch → rowsRefusal ch ≡ none
-unfolding rowsRefusal tooWide uneven highNet lonePin
+unfolding rowsRefusal tooWide uneven highNet
 →silent ch s =
-    none-or-else (tooWide ch) (uneven ch or-else highNet ch or-else lonePin ch)
+    none-or-else (tooWide ch) (uneven ch or-else highNet ch)
     (none-refuse-if (wideTest ch) _ (s .notWide))
-    (none-or-else (uneven ch) (highNet ch or-else lonePin ch) (none-refuse-if (unevenTest ch) _ (s .notUneven))
-    (none-or-else (highNet ch) (lonePin ch)
+    (none-or-else (uneven ch) (highNet ch) (none-refuse-if (unevenTest ch) _ (s .notUneven))
     (none-refuse-at-first HighNet (keep (high ch) (upTo (length (positions ch))))
     (fails→none-kept (high ch) (upTo (length (positions ch)))
-    (λ p m. let r = upTo-member (length (positions ch)) m in s .notHigh p (r .0) (r .1))))
-    (none-refuse-at-first LonePin (keep (lone ch) (upTo highestNet))
-    (fails→none-kept (lone ch) (upTo highestNet) (λ n m. let r = upTo-member highestNet m in
-    s .notLone n (r .0) (r .1))))))
+    (λ p m. let r = upTo-member (length (positions ch)) m in s .notHigh p (r .0) (r .1)))))
 
 silent→even : (ch : Channel) → Silent ch → length (ch .bot) ≡ width ch
 silent→even ch s =
@@ -110,7 +98,6 @@ silent→escapes ch s =
           absurd (s .notUneven (or-right (not (eqb (length (ch .top)) (length (ch .bot)))) (eqb (length (ch .top)) 0)
           (subst (λ (k : ℕ). T (eqb k 0)) (sym e) (eqb-refl 0))))) (λ o. omega (arith, o)) (equal? (width ch) 0);
       low = λ c. (top-low c, bot-low c);
-      no-lone = no-lone;
     }
   where
     even : length (ch .bot) ≡ width ch
@@ -129,21 +116,8 @@ silent→escapes ch s =
         (bot-holds ch (at (ch .bot) c) c even (r .0) (let h = r .1 in omega (arith, even)) refl))
         (equal? (at (ch .bot) c) 0)
 
-    no-lone : (n : ℕ) → 0 < n → pinCount ch n ≡ 1 → ⊥
-    no-lone n h e =
-        let r = counted→pin ch n even (omega arith) in
-        let low : n ≤ highestNet = ⊎-elim (λ q. let k = top-low (r .0) in omega arith)
-        (λ q. let k = bot-low (r .0) in omega arith) (r .1 .pin) in
-        s .notLone n h low (subst (λ (k : ℕ). T (eqb k 1)) (sym e) (eqb-refl 1))
-
 escapes→silent : (ch : Channel) → Escapes ch → Silent ch
-escapes→silent ch e =
-    record {
-      notWide = notWide;
-      notUneven = notUneven;
-      notHigh = notHigh;
-      notLone = λ n h₁ h₂ t. e .no-lone n h₁ (eqb→eq (pinCount ch n) 1 t);
-    }
+escapes→silent ch e = record { notWide = notWide; notUneven = notUneven; notHigh = notHigh }
   where
     notWide : T (wideTest ch) → ⊥
     notWide t =
@@ -174,6 +148,6 @@ escapes→silent ch e =
         let q = at-suc (positions ch) i in
         omega arith
 
--- the row check answers accepted exactly if the channel escapes refusals 3 to 6
+-- the row check answers accepted exactly if the channel escapes refusals 3 to 5
 pub accepted-exactly : (ch : Channel) → (rowsRefusal ch ≡ none) ↔ Escapes ch
 accepted-exactly ch = (λ h. silent→escapes ch (silent→ ch h), λ e. →silent ch (escapes→silent ch e))

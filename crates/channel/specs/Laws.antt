@@ -4,28 +4,34 @@ use Prim.Native.Nat.{ℕ, zero, suc, _+_, _-_, _≤_, _<_}
 use native.Mathlib.Omega.{arith}
 use native.Mathlib.Decide.{decLt}
 use mathlib.Core.Path.{_≡_, refl, sym, _∙_, ap, subst}
-use mathlib.Core.List.{List, [], _∷_, map, List·Memᴰ, List·Memᴰ·head, List·Memᴰ·tail, Memᴰ·map, Memᴰ·of-map, Memᴰ·cast}
+use mathlib.Core.List.{List, [], _∷_, map, List·Memᴰ, List·Memᴰ·head, Memᴰ·map, Memᴰ·of-map}
 use mathlib.Core.Logic.{_⊎_, inl, inr, ⊎-elim}
-use mathlib.Core.Bool.{_&&_, _||_, not}
+use mathlib.Core.Bool.{_&&_, not}
 use lib.ListN.{length, getD, length-append, List·getD-append}
 use lib.Seq.{getD-append-add}
-use lib.Dec.{T, eqb, ltb→lt, lt→ltb, eqb→eq, eqb-refl}
+use lib.Dec.{T, ltb, eqb, ltb→lt, lt→ltb, eqb→eq}
 use Rattle.lists.specs.Lists.{keep, upTo, headOr, lastOr, at}
 use Rattle.lists.specs.Tests.{eq→T, and-left, and-right, and-both, or-cases, or-left, or-right, not-passes, not-fails}
 use Rattle.lists.specs.Members.{keep-member, kept, upTo-member, in-upTo}
 use Rattle.lists.specs.Ends.{head-member, last-member, Rising, from-rising, keep-rising, head-least, last-greatest}
-use Rattle.lists.specs.Ends.{at-suc, at-inside, member-at, getD-member}
-use Rattle.channel.specs.Channel.{Channel, width, positions, isNet, pinColumns, firstColumn, lastColumn, pinCount}
+use Rattle.lists.specs.Ends.{at-suc, at-inside, member-at}
+use Rattle.channel.specs.Channel.{Channel, width, positions, pinCount, isNet, stands, hasPin}
+use Rattle.channel.specs.Channel.{pinColumns, firstColumn, lastColumn}
 use Rattle.channel.specs.Constraints.{Above, above, Drop, drops}
 
--- `isNet` says that the number is not 0
+-- `isNet` says that the number is not 0 and has more than one pin
 pub net-positive : (ch : Channel) (n : ℕ) → T (isNet ch n) → 0 < n
 unfolding isNet
-net-positive ch n h = ltb→lt 0 n h
+net-positive ch n h = ltb→lt 0 n (and-left (ltb 0 n) (ltb 1 (pinCount ch n)) h)
 
-pub positive-net : (ch : Channel) (n : ℕ) → 0 < n → T (isNet ch n)
+pub net-counted : (ch : Channel) (n : ℕ) → T (isNet ch n) → 1 < pinCount ch n
 unfolding isNet
-positive-net ch n h = lt→ltb 0 n h
+net-counted ch n h = ltb→lt 1 (pinCount ch n) (and-right (ltb 0 n) (ltb 1 (pinCount ch n)) h)
+
+pub counted-net : (ch : Channel) (n : ℕ) → 0 < n → 1 < pinCount ch n → T (isNet ch n)
+unfolding isNet
+counted-net ch n h k =
+    and-both (ltb 0 n) (ltb 1 (pinCount ch n)) (lt→ltb 0 n h) (lt→ltb 1 (pinCount ch n) k)
 
 -- `above` is `Above`
 pub above→ : (ch : Channel) (a b c : ℕ) → T (above ch a b c) → Above ch a b c
@@ -75,6 +81,7 @@ above→drop ch a b c h =
 
 -- column c holds a pin of net n
 pub record PinIn (ch : Channel) (n c : ℕ) : Type 0 where
+  pub net : T (isNet ch n)
   pub first : 1 ≤ c
   pub last : c ≤ width ch
   pub pin : (at (ch .top) c ≡ n) ⊎ (at (ch .bot) c ≡ n)
@@ -82,27 +89,29 @@ pub record PinIn (ch : Channel) (n c : ℕ) : Type 0 where
 pub pin-column : (ch : Channel) (n c : ℕ) → List·Memᴰ c (pinColumns ch n) → PinIn ch n c
 unfolding pinColumns
 pin-column ch n c m =
-    let k = keep-member (λ e. eqb (at (ch .top) e) n || eqb (at (ch .bot) e) n) (upTo (width ch)) m in
+    let k = keep-member (hasPin ch n) (upTo (width ch)) m in
     let r = upTo-member (width ch) (k .0) in
     record {
+      net = and-left (isNet ch n) (stands ch n c) (k .1);
       first = r .0;
       last = r .1;
-      pin = ⊎-elim (λ t. inl (eqb→eq (at (ch .top) c) n t))
-          (λ t. inr (eqb→eq (at (ch .bot) c) n t)) (or-cases (eqb (at (ch .top) c) n) (eqb (at (ch .bot) c) n) (k .1));
+      pin = ⊎-elim (λ t. inl (eqb→eq (at (ch .top) c) n t)) (λ t. inr (eqb→eq (at (ch .bot) c) n t))
+          (or-cases (eqb (at (ch .top) c) n) (eqb (at (ch .bot) c) n) (and-right (isNet ch n) (stands ch n c) (k .1)));
     }
 
 pub in-pin-columns : (ch : Channel) (n c : ℕ) → PinIn ch n c → List·Memᴰ c (pinColumns ch n)
 unfolding pinColumns
 in-pin-columns ch n c p =
-    kept (λ e. eqb (at (ch .top) e) n || eqb (at (ch .bot) e) n) (in-upTo (width ch) c (p .first) (p .last))
+    kept (hasPin ch n) (in-upTo (width ch) c (p .first) (p .last))
+    (and-both (isNet ch n) (stands ch n c) (p .net)
     (⊎-elim (λ e. or-left (eqb (at (ch .top) c) n) (eqb (at (ch .bot) c) n) (eq→T _ _ e))
-    (λ e. or-right (eqb (at (ch .top) c) n) (eqb (at (ch .bot) c) n) (eq→T _ _ e)) (p .pin))
+    (λ e. or-right (eqb (at (ch .top) c) n) (eqb (at (ch .bot) c) n) (eq→T _ _ e)) (p .pin)))
 
 -- the pin columns of a net lie between its first and its last, which are pin columns themselves
 pub columns-rising : (ch : Channel) (n : ℕ) → Rising (pinColumns ch n)
 unfolding pinColumns
 columns-rising ch n =
-    keep-rising (λ c. eqb (at (ch .top) c) n || eqb (at (ch .bot) c) n) (upTo (width ch)) (from-rising 1 (width ch))
+    keep-rising (hasPin ch n) (upTo (width ch)) (from-rising 1 (width ch))
 
 pub pin-after-first : (ch : Channel) (n c : ℕ) → PinIn ch n c → firstColumn ch n ≤ c
 unfolding firstColumn
@@ -120,7 +129,7 @@ pub pin-in-last : (ch : Channel) (n c : ℕ) → PinIn ch n c → PinIn ch n (la
 unfolding lastColumn
 pin-in-last ch n c p = pin-column ch n (lastOr 0 (pinColumns ch n)) (last-member 0 (in-pin-columns ch n c p))
 
--- a net has a pin somewhere exactly if it is counted
+-- a number stands at pin position i, counted from 0
 pub record PinAmong (ch : Channel) (n i : ℕ) : Type 0 where
   pub inRow : i < length (positions ch)
   pub holds : getD (positions ch) i 0 ≡ n
@@ -167,37 +176,22 @@ standing ch n i even p = elim (decLt i (width ch)) [ yes h ↦ left h | no h ↦
         (at-suc (ch .bot) (i - width ch) ∙ (sym (getD-append-add (ch .top) (ch .bot) (i - width ch) 0)
         ∙ (ap (λ (k : ℕ). getD (positions ch) k 0) apart ∙ p .holds)))
 
-standing→in : (ch : Channel) (n i : ℕ) → Standing ch n i → (c : ℕ) × PinIn ch n c
-standing→in ch n i (on-top c h₁ h₂ q e) = (c, record { first = h₁; last = h₂; pin = inl e })
-standing→in ch n i (on-bot c h₁ h₂ q e) = (c, record { first = h₁; last = h₂; pin = inr e })
+standing→in : (ch : Channel) (n i : ℕ) → T (isNet ch n) → Standing ch n i → (c : ℕ) × PinIn ch n c
+standing→in ch n i net (on-top c h₁ h₂ q e) = (c, record { net = net; first = h₁; last = h₂; pin = inl e })
+standing→in ch n i net (on-bot c h₁ h₂ q e) = (c, record { net = net; first = h₁; last = h₂; pin = inr e })
 
-pub counted→pin : (ch : Channel) (n : ℕ) → length (ch .bot) ≡ width ch → 0 < pinCount ch n → (c : ℕ) × PinIn ch n c
+-- a net has a pin in some column
+pub net→pin : (ch : Channel) (n : ℕ) → length (ch .bot) ≡ width ch → T (isNet ch n) → (c : ℕ) × PinIn ch n c
 unfolding pinCount
-counted→pin ch n even h = go (keep (eqb n) (positions ch)) refl
+net→pin ch n even net = go (keep (eqb n) (positions ch)) refl
   where
     go : (ys : List ℕ) → keep (eqb n) (positions ch) ≡ ys → (c : ℕ) × PinIn ch n c
-    go [] q = absurd (let z : 0 < 0 = subst (λ (l : List ℕ). 0 < length l) q h in omega arith)
+    go [] q =
+        absurd (let z : 1 < 0 = subst (λ (l : List ℕ). 1 < length l) q (net-counted ch n net) in omega arith)
     go (y ∷ ys) q =
         let m : List·Memᴰ y (keep (eqb n) (positions ch)) =
         subst (λ (l : List ℕ). List·Memᴰ y l) (sym q) (List·Memᴰ·head refl) in
         let found = keep-member (eqb n) (positions ch) m in
         let r = member-at (found .0) in
-        standing→in ch n (r .0) (standing ch n (r .0) even
+        standing→in ch n (r .0) net (standing ch n (r .0) even
         (record { inRow = r .1; holds = r .2 ∙ sym (eqb→eq n y (found .1)) }))
-
-pin-among : (ch : Channel) (n c : ℕ) → length (ch .bot) ≡ width ch → PinIn ch n c → (i : ℕ) × PinAmong ch n i
-pin-among ch n c even p =
-    ⊎-elim (λ e. (c - 1, top-holds ch n c (p .first) (p .last) e))
-    (λ e. (width ch + (c - 1), bot-holds ch n c even (p .first) (p .last) e)) (p .pin)
-
-pub pin→counted : (ch : Channel) (n c : ℕ) → length (ch .bot) ≡ width ch → PinIn ch n c → 0 < pinCount ch n
-unfolding pinCount
-pin→counted ch n c even p =
-    let r = pin-among ch n c even p in
-    let m : List·Memᴰ n (positions ch) = Memᴰ·cast (sym (r .1 .holds))
-    (getD-member (positions ch) (r .0) (r .1 .inRow)) in
-    member-length (kept (eqb n) m (eqb-refl n))
-  where
-    member-length : {x : ℕ} {xs : List ℕ} → List·Memᴰ x xs → 0 < length xs
-    member-length (List·Memᴰ·head e) = omega arith
-    member-length (List·Memᴰ·tail m) = omega arith

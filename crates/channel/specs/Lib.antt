@@ -6,9 +6,11 @@ pub mod Spans
 pub mod Starts
 pub mod Rows
 pub mod Laws
+pub mod Parked
 pub mod EscapeLaws
 pub mod Promise
 pub mod SpanLaws
+pub mod ParkedLaws
 pub mod CountLaws
 pub mod PathLaws
 pub mod ChainLaws
@@ -21,4 +23,6 @@ pub mod DepthLaws
 pub mod StartLaws
 pub mod SweepLaws
 pub mod NoteLaws
+pub mod ShownLaws
+pub mod RemoveLaws
 pub mod ToldLaws

@@ -10,22 +10,25 @@ use lib.ListN.{set, replicate}
 use lib.Dec.{eqb}
 use borrow.Author.Tests.{eq-eqb, ne-eqb}
 use Rattle.lists.specs.Lists.{keep, from, upTo, headOr, lastOr, at}
-use Rattle.lists.specs.Tests.{equal?}
+use Rattle.lists.specs.Tests.{same-test, and-right, and-both, equal?}
 use Rattle.lists.specs.Members.{keep-member, upTo-member}
-use Rattle.lists.specs.Updates.{keep-next}
+use Rattle.lists.specs.Tallies.{keep-same}
+use Rattle.lists.specs.Updates.{keep-next, set-gives}
 use Rattle.lists.specs.Arrays.{getD-numbered, numbered-same, numbered-replicate, set-numbered}
-use Rattle.channel.specs.Channel.{Channel, width, hasPin, pinColumns, firstColumn, lastColumn}
+use Rattle.channel.specs.Channel.{Channel, width, isNet, stands, hasPin, pinColumns, firstColumn, lastColumn}
 use Rattle.channel.specs.Spans.{each512, firsts, lasts}
 use Rattle.channel.specs.Starts.{firstNoted}
+use Rattle.channel.specs.Parked.{NetsOnly}
+use Rattle.channel.specs.ParkedLaws.{zero-no-net, no-first, no-last, net-stands}
 
 -- the first and the last pin column of number n among the first i columns, 0 if there is none
 unfoldable pub firstBy : Channel → ℕ → ℕ → ℕ
-firstBy ch i n = headOr 0 (keep (hasPin ch n) (upTo i))
+firstBy ch i n = headOr 0 (keep (stands ch n) (upTo i))
 
 unfoldable pub lastBy : Channel → ℕ → ℕ → ℕ
-lastBy ch i n = lastOr 0 (keep (hasPin ch n) (upTo i))
+lastBy ch i n = lastOr 0 (keep (stands ch n) (upTo i))
 
--- before any column is noted no number has one, and after all are noted each has its own
+-- before any column is noted no number has one
 module _ (ch : Channel) where
   first-none : (n : ℕ) → 0 ≡ firstBy ch 0 n
   unfolding firstBy headOr keep from
@@ -35,25 +38,34 @@ module _ (ch : Channel) where
   unfolding lastBy lastOr keep from
   last-none n = refl
 
-  first-whole : (n : ℕ) → firstBy ch (width ch) n ≡ firstColumn ch n
-  unfolding firstBy firstColumn pinColumns
-  first-whole n = refl
-
-  last-whole : (n : ℕ) → lastBy ch (width ch) n ≡ lastColumn ch n
-  unfolding lastBy lastColumn pinColumns
-  last-whole n = refl
-
   pub firsts-none : replicate 512 0 ≡ each512 (firstBy ch 0)
   firsts-none = numbered-replicate 512 0 ∙ numbered-same (λ n. 0) (firstBy ch 0) 512 (λ n below. first-none n)
 
   pub lasts-none : replicate 512 0 ≡ each512 (lastBy ch 0)
   lasts-none = numbered-replicate 512 0 ∙ numbered-same (λ n. 0) (lastBy ch 0) 512 (λ n below. last-none n)
 
-  pub firsts-whole : each512 (firstBy ch (width ch)) ≡ firsts ch
-  firsts-whole = numbered-same (firstBy ch (width ch)) (firstColumn ch) 512 (λ n below. first-whole n)
+-- in rows that show nets only, the columns in which a number other than 0 stands are those of its net's pins
+module _ (ch : Channel) (only : NetsOnly ch) where
+  standing-columns : (n : ℕ) → (n ≡ 0 → ⊥) → keep (stands ch n) (upTo (width ch)) ≡ pinColumns ch n
+  unfolding pinColumns
+  standing-columns n h =
+      keep-same (stands ch n) (hasPin ch n) (upTo (width ch))
+      (λ c m. same-test (stands ch n c) (hasPin ch n c)
+      (λ t. and-both (isNet ch n) (stands ch n c) (net-stands only n c (omega (arith, h)) t) t)
+      (and-right (isNet ch n) (stands ch n c)))
 
-  pub lasts-whole : each512 (lastBy ch (width ch)) ≡ lasts ch
-  lasts-whole = numbered-same (lastBy ch (width ch)) (lastColumn ch) 512 (λ n below. last-whole n)
+  -- after all columns are noted, and those of number 0 cleared, each number has its own
+  pub firsts-whole : set (each512 (firstBy ch (width ch))) 0 0 ≡ firsts ch
+  unfolding firstBy firstColumn
+  firsts-whole =
+      set-gives (firstBy ch (width ch)) (firstColumn ch) 512 0 0 (omega arith) (no-first ch 0 (zero-no-net ch))
+      (λ n below apart. ap (headOr 0) (standing-columns n apart))
+
+  pub lasts-whole : set (each512 (lastBy ch (width ch))) 0 0 ≡ lasts ch
+  unfolding lastBy lastColumn
+  lasts-whole =
+      set-gives (lastBy ch (width ch)) (lastColumn ch) 512 0 0 (omega arith) (no-last ch 0 (zero-no-net ch))
+      (λ n below apart. ap (lastOr 0) (standing-columns n apart))
 
 -- a column that is noted where there is none yet
 abbrev noted : ℕ → ℕ → ℕ
@@ -73,18 +85,18 @@ last-snoc d [] true c = refl
 last-snoc d [] false c = refl
 last-snoc d (x ∷ xs) b c = last-snoc x xs b c
 
-first-more : (ch : Channel) (i n : ℕ) → firstBy ch (i + 1) n ≡ cond (hasPin ch n (i + 1))
+first-more : (ch : Channel) (i n : ℕ) → firstBy ch (i + 1) n ≡ cond (stands ch n (i + 1))
     (noted (firstBy ch i n) (i + 1)) (firstBy ch i n)
 unfolding firstBy keep
 first-more ch i n =
-    ap (headOr 0) (keep-next (hasPin ch n) i)
-    ∙ head-snoc (keep (hasPin ch n) (upTo i)) (hasPin ch n (i + 1)) (i + 1)
-    (λ x m. upTo-member i (keep-member (hasPin ch n) (upTo i) m .0) .0)
+    ap (headOr 0) (keep-next (stands ch n) i)
+    ∙ head-snoc (keep (stands ch n) (upTo i)) (stands ch n (i + 1)) (i + 1)
+    (λ x m. upTo-member i (keep-member (stands ch n) (upTo i) m .0) .0)
 
-last-more : (ch : Channel) (i n : ℕ) → lastBy ch (i + 1) n ≡ cond (hasPin ch n (i + 1)) (i + 1) (lastBy ch i n)
+last-more : (ch : Channel) (i n : ℕ) → lastBy ch (i + 1) n ≡ cond (stands ch n (i + 1)) (i + 1) (lastBy ch i n)
 unfolding lastBy keep
 last-more ch i n =
-    ap (lastOr 0) (keep-next (hasPin ch n) i) ∙ last-snoc 0 (keep (hasPin ch n) (upTo i)) (hasPin ch n (i + 1)) (i + 1)
+    ap (lastOr 0) (keep-next (stands ch n) i) ∙ last-snoc 0 (keep (stands ch n) (upTo i)) (stands ch n (i + 1)) (i + 1)
 
 eqb-sym : (a b : ℕ) → eqb a b ≡ eqb b a
 eqb-sym a b =
@@ -140,7 +152,7 @@ once false false x c = refl
 
 module _ (ch : Channel) (i : ℕ) (a b : ℕ) (onTop : a ≡ at (ch .top) (i + 1)) (onBot : b ≡ at (ch .bot) (i + 1))
     (lowTop : a < 512) (lowBot : b < 512) where
-  test : (n : ℕ) → hasPin ch n (i + 1) ≡ eqb n a || eqb n b
+  test : (n : ℕ) → stands ch n (i + 1) ≡ eqb n a || eqb n b
   test n = rw (onTop, onBot, eqb-sym n (at (ch .top) (i + 1)), eqb-sym n (at (ch .bot) (i + 1)))
 
   -- both pins of a column noted

@@ -12,16 +12,15 @@ use lib.ListN.{length, getD, set, drop, replicate, drop-of-length-le, length-app
 use lib.ListN.{getD-replicate}
 use lib.Seq.{drop-cons, getD-set-same, getD-set-other}
 use lib.Dec.{T, ltb, eqb, ltb→lt, lt→ltb, eqb→eq, eqb-refl}
-use Rattle.lists.specs.Lists.{at, keep, upTo, headOr}
+use Rattle.lists.specs.Lists.{at, keep, headOr}
 use Rattle.lists.specs.Tests.{T→true, fails→false, equal?}
-use Rattle.lists.specs.Members.{upTo-member}
 use Rattle.lists.specs.Firsts.{Passing, NonePasses}
 use Rattle.lists.specs.Ends.{at-suc}
 use Rattle.lists.specs.Pigeonhole.{length-keep}
 use Rattle.lists.specs.Places.{at-left, at-right}
-use Rattle.lists.specs.Tallies.{firstOf, length-keep-append, first-is, first-none, is-first, none-first, keep-same}
+use Rattle.lists.specs.Tallies.{firstOf, length-keep-append, first-is, first-none, is-first, none-first}
 use Rattle.channel.specs.Channel.{Channel, highestNet, pinCount}
-use Rattle.channel.specs.Rows.{firstHigh, tally, firstLone}
+use Rattle.channel.specs.Rows.{firstHigh, tally}
 
 -- the test of `firstHigh`: place p of the row holds a number over 511
 abbrev pub high : List ℕ → ℕ → Bool
@@ -80,38 +79,6 @@ first-high-most row =
     ⊎-elim (λ e. omega arith) (λ some. let h = is-first (high row) (length row) some .holds in let u = h .high in
     omega arith)
     (equal? (firstOf (high row) (length row)) 0)
-
--- the test of `firstLone`: net n is counted just once
-abbrev lone : List ℕ → ℕ → Bool
-lone counts n = eqb (getD counts n 0) 1
-
--- the scan of the counts from net 1 on stops at the first net counted just once, or finds none
-pub first-lone-at : (counts : List ℕ) (n : ℕ) → 1 ≤ n → n < 512 → getD counts n 0 ≡ 1
-    → ((k : ℕ) → k < n → 1 ≤ k → getD counts k 0 ≡ 1 → ⊥) → n ≡ firstLone counts
-unfolding firstLone
-first-lone-at counts n low inside here before =
-    sym (first-is (lone counts) highestNet n (record {
-      holds = record {
-        low = low;
-        high = omega arith;
-        passes = subst (λ (k : ℕ). T (eqb k 1)) (sym here) (eqb-refl 1);
-      };
-      lowest = lowest;
-    }))
-  where
-    lowest : (q : ℕ) → Passing (lone counts) 1 highestNet q → n ≤ q
-    lowest q p =
-        elim (decLe n q) [
-          | yes h ↦ h
-          | no h ↦ absurd (before q (omega arith) (p .low)
-              (eqb→eq (getD counts q 0) 1 (p .passes)))
-        ]
-
-pub no-first-lone : (counts : List ℕ) → ((k : ℕ) → k < 512 → 1 ≤ k → getD counts k 0 ≡ 1 → ⊥) → 0 ≡ firstLone counts
-unfolding firstLone headOr
-no-first-lone counts none =
-    sym (ap (headOr 0) (first-none (lone counts) highestNet
-    (λ k p. let u = p .high in none k (omega arith) (p .low) (eqb→eq (getD counts k 0) 1 (p .passes)))))
 
 -- a turn of the count takes the next number of the row, and where none is left the count is done
 pub tally-step : (row counts : List ℕ) (i : ℕ) → i < length row
@@ -275,7 +242,7 @@ module _ (xs ys : List ℕ) (none : firstHigh xs ≡ 0) where
 
 module _ (ch : Channel) where
   -- counted one after the other from nothing, the two rows give each net's pins
-  pins-counted : firstHigh (ch .top) ≡ 0 → firstHigh (ch .bot) ≡ 0 → (n : ℕ) → n < 512
+  pub pins-counted : firstHigh (ch .top) ≡ 0 → firstHigh (ch .bot) ≡ 0 → (n : ℕ) → n < 512
       → getD (tally (ch .bot) (tally (ch .top) zeros)) n 0 ≡ pinCount ch n
   unfolding pinCount
   pins-counted top-low bot-low n inside =
@@ -286,13 +253,3 @@ module _ (ch : Channel) where
       let z = zeros-at n inside in
       let t = length-keep-append (eqb n) (ch .top) (ch .bot) in
       omega arith
-
-  -- so the first net counted just once is the first with just one pin
-  pub lone-counted : firstHigh (ch .top) ≡ 0 → firstHigh (ch .bot) ≡ 0
-      → firstLone (tally (ch .bot) (tally (ch .top) zeros)) ≡ firstOf (λ n. eqb (pinCount ch n) 1) highestNet
-  unfolding firstLone
-  lone-counted top-low bot-low =
-      let counts = tally (ch .bot) (tally (ch .top) zeros) in
-      ap (headOr 0) (keep-same (lone counts) (λ n. eqb (pinCount ch n) 1) (upTo highestNet)
-      (λ n m. let r = upTo-member highestNet m in ap (λ (k : ℕ). eqb k 1)
-      (pins-counted top-low bot-low n (omega arith))))

@@ -1,6 +1,7 @@
--- What the parts of the row check answer, each over one row or over the counts of the nets.
+-- What the parts of the row check answer over one row, and of the removal of parked pins over a row and the counts.
 use Prim.Native.Nat.{ℕ, _+_}
-use mathlib.Core.List.{List, [], _∷_}
+use mathlib.Core.List.{List, [], _∷_, map}
+use mathlib.Core.Bool.{cond}
 use lib.ListN.{length, getD, set}
 use lib.Dec.{ltb, eqb}
 use Rattle.lists.specs.Lists.{keep, headOr, upTo, at}
@@ -15,6 +16,9 @@ unfoldable pub tally : List ℕ → List ℕ → List ℕ
 tally [] counts = counts
 tally (n ∷ ns) counts = tally ns (set counts n (getD counts n 0 + 1))
 
--- the lowest net that is counted just once, 0 if there is none
-unfoldable pub firstLone : List ℕ → ℕ
-firstLone counts = headOr 0 (keep (λ n. eqb (getD counts n 0) 1) (upTo highestNet))
+-- the number, or 0 if it is counted just once; and so for each of a row
+unfoldable pub unlessOnce : List ℕ → ℕ → ℕ
+unlessOnce counts n = cond (eqb (getD counts n 0) 1) 0 n
+
+abbrev pub netsOfRow : List ℕ → List ℕ → List ℕ
+netsOfRow counts row = map (unlessOnce counts) row

@@ -20,9 +20,11 @@ use Rattle.channel.specs.declared.spans.Span.{Span}
 use Rattle.channel.specs.Channel.{Channel, width, highestNet, firstColumn, lastColumn, spanning}
 use Rattle.channel.specs.Answers.{Escapes}
 use Rattle.channel.specs.Spans.{firsts, lasts, starting, ending}
-use Rattle.channel.specs.Laws.{PinIn, counted→pin, pin-in-first, pin-in-last}
+use Rattle.channel.specs.Parked.{NetsOnly}
+use Rattle.channel.specs.Laws.{PinIn, net→pin, pin-in-first, pin-in-last}
 use Rattle.channel.specs.SpanLaws.{IsNet, span-strict, spanning→, →spanning, spanning-rising, pin→net}
 use Rattle.channel.specs.DepthLaws.{at-next, top-low, bot-low}
+use Rattle.channel.specs.ParkedLaws.{top-net, bot-net}
 use Rattle.channel.specs.Starts.{spanAt, startsAt, endsAt, chosenStarting, startingAmong, startingList}
 use Rattle.channel.specs.Starts.{endingAmong}
 
@@ -62,8 +64,12 @@ module _ (ch : Channel) (esc : Escapes ch) where
   -- a net with a span has a pin in its first column, and in its last
   pub span-pins : (n : ℕ) → List·Memᴰ n (spanning ch) → PinIn ch n (firstColumn ch n) × PinIn ch n (lastColumn ch n)
   span-pins n m =
-      let r = counted→pin ch n (esc .even) (spanning→ ch n m .0 .counted) in
+      let r = net→pin ch n (esc .even) (spanning→ ch n m .0 .isNet) in
       (pin-in-first ch n (r .0) (r .1), pin-in-last ch n (r .0) (r .1))
+
+module _ (ch : Channel) (only : NetsOnly ch) where
+  abbrev esc : Escapes ch
+  esc = only .escapes
 
   module _ (c : ℕ) (low : 1 ≤ c) (high : c ≤ width ch) where
     Pinned : ℕ → Type 0
@@ -76,8 +82,12 @@ module _ (ch : Channel) (esc : Escapes ch) where
     pinned→net : (n : ℕ) → 0 < n → Pinned n → IsNet ch n
     unfolding Pinned
     pinned→net n h p =
-        pin→net ch esc n c h
-        (record { first = low; last = high; pin = ⊎-elim (λ q. inl (sym q)) (λ q. inr (sym q)) p })
+        pin→net ch esc n c (record {
+          net = ⊎-elim (λ q. top-net only c n (sym q) h) (λ q. bot-net only c n (sym q) h) p;
+          first = low;
+          last = high;
+          pin = ⊎-elim (λ q. inl (sym q)) (λ q. inr (sym q)) p;
+        })
 
     starting→ : (n : ℕ) → List·Memᴰ n (starting ch c) → Pinned n × T (startsAt c n (columnsOf ch n))
     unfolding starting
@@ -87,7 +97,7 @@ module _ (ch : Channel) (esc : Escapes ch) where
         let here = eqb→eq (firstColumn ch n) c (k .1) in
         let rises = span-strict ch n (s .1) in
         let past = lt→ltb c (lastColumn ch n) (omega arith) in (
-          pinned n (firstColumn ch n) here (span-pins n (k .0) .0),
+          pinned n (firstColumn ch n) here (span-pins ch esc n (k .0) .0),
           →three n (firstColumn ch n) c (ltb c (lastColumn ch n)) (s .0 .positive) here past,
         )
 
@@ -108,7 +118,7 @@ module _ (ch : Channel) (esc : Escapes ch) where
         let here = eqb→eq (lastColumn ch n) c (k .1) in
         let rises = span-strict ch n (s .1) in
         let past = lt→ltb (firstColumn ch n) c (omega arith) in (
-          pinned n (lastColumn ch n) here (span-pins n (k .0) .1),
+          pinned n (lastColumn ch n) here (span-pins ch esc n (k .0) .1),
           →three n (lastColumn ch n) c (ltb (firstColumn ch n) c) (s .0 .positive) here past,
         )
 
@@ -133,9 +143,9 @@ module _ (ch : Channel) (esc : Escapes ch) where
         among-two (λ n. endsAt c n (columnsOf ch n)) (at (ch .top) c) (at (ch .bot) c) (ending ch c)
         (keep-rising (λ n. eqb (lastColumn ch n) c) (spanning ch) (spanning-rising ch)) ending→ →ending
 
--- column c of a channel that escapes the refusals, with the nets of its pins and their columns
+-- column c of a channel that shows nets only, with the nets of its pins and their columns
 pub record ColumnPins (ch : Channel) (c a : ℕ) (s : Span) (b : ℕ) (t : Span) : Type 0 where
-  pub escapes : Escapes ch
+  pub only : NetsOnly ch
   pub onTop : a ≡ at (ch .top) c
   pub onBot : b ≡ at (ch .bot) c
   pub ofTop : s ≡ columnsOf ch a
@@ -144,17 +154,17 @@ pub record ColumnPins (ch : Channel) (c a : ℕ) (s : Span) (b : ℕ) (t : Span)
   pub high : c ≤ width ch
 
 -- the column of place i of the rows, where the columns of its nets are taken from the arrays
-pub column-pins : (ch : Channel) → Escapes ch → {first last : List ℕ} → first ≡ firsts ch → last ≡ lasts ch
+pub column-pins : (ch : Channel) → NetsOnly ch → {first last : List ℕ} → first ≡ firsts ch → last ≡ lasts ch
     → (i : ℕ) → i < width ch → {s t : Span} → s ≡ spanAt first last (getD (ch .top) i 0)
     → t ≡ spanAt first last (getD (ch .bot) i 0)
     → ColumnPins ch (i + 1) (getD (ch .top) i 0) s (getD (ch .bot) i 0) t
-column-pins ch esc f l i h es et =
+column-pins ch only f l i h es et =
     record {
-      escapes = esc;
+      only = only;
       onTop = sym (at-next (ch .top) i);
       onBot = sym (at-next (ch .bot) i);
-      ofTop = es ∙ columns-at ch _ _ _ f l (top-low ch i esc);
-      ofBot = et ∙ columns-at ch _ _ _ f l (bot-low ch i esc);
+      ofTop = es ∙ columns-at ch _ _ _ f l (top-low ch i (only .escapes));
+      ofBot = et ∙ columns-at ch _ _ _ f l (bot-low ch i (only .escapes));
       low = omega arith;
       high = omega arith;
     }
@@ -165,9 +175,9 @@ pub starting-among : {ch : Channel} {c a b : ℕ} {s t : Span} → ColumnPins ch
 unfolding startingAmong
 starting-among {ch} {c} h =
     rw (h .ofTop, h .ofBot, h .onTop, h .onBot)
-    (chosen-list _ _ _ _ _ ∙ starting-two ch (h .escapes) c (h .low) (h .high))
+    (chosen-list _ _ _ _ _ ∙ starting-two ch (h .only) c (h .low) (h .high))
 
 pub ending-among : {ch : Channel} {c a b : ℕ} {s t : Span} → ColumnPins ch c a s b t
     → endingAmong c a s b t ≡ ending ch c
 ending-among {ch} {c} h =
-    rw (h .ofTop, h .ofBot, h .onTop, h .onBot) (ending-two ch (h .escapes) c (h .low) (h .high))
+    rw (h .ofTop, h .ofBot, h .onTop, h .onBot) (ending-two ch (h .only) c (h .low) (h .high))

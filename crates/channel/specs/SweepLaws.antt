@@ -19,7 +19,7 @@ use Rattle.lists.specs.Pigeonhole.{length-keep}
 use Rattle.lists.specs.Unique.{one-if}
 use Rattle.lists.specs.Arrays.{from-snoc}
 use Rattle.lists.specs.Updates.{greatest-map-last}
-use Rattle.channel.specs.Channel.{Channel, width, highestNet, holdsNet, firstColumn, lastColumn, nets, hasSpan}
+use Rattle.channel.specs.Channel.{Channel, width, highestNet, isNet, firstColumn, lastColumn, nets, hasSpan}
 use Rattle.channel.specs.Channel.{spanning}
 use Rattle.channel.specs.Density.{spansOver, spansOf, density}
 use Rattle.channel.specs.Answers.{Escapes}
@@ -112,7 +112,7 @@ unfolding netsOver spanning nets
 over-few ch c =
     let a = length-keep (λ n. within (firstColumn ch n) c (lastColumn ch n)) (spanning ch) in
     let b = length-keep (hasSpan ch) (nets ch) in
-    let d = length-keep (holdsNet ch) (upTo highestNet) in
+    let d = length-keep (isNet ch) (upTo highestNet) in
     omega (arith, length-from 1 highestNet)
 
 -- the density of the first i columns

@@ -1,4 +1,4 @@
--- The check of rows and the bounds are told by their refusal, of number 3 to 6; and the bounds are small, since each
+-- The check of rows and the bounds are told by their refusal, of number 3 to 5; and the bounds are small, since each
 -- counts different nets.
 use Prim.Native.Nat.{ℕ, suc, _≤_}
 use native.Mathlib.Omega.{arith}
@@ -11,7 +11,7 @@ use mathlib.Core.Option.{some}
 use lib.ListN.{length, length-map}
 use Rattle.lists.specs.Pigeonhole.{length-keep, pigeonhole}
 use Rattle.refusal.specs.declared.Refusal.{Refusal}
-use Rattle.refusal.specs.declared.Refusal.the-variants.{TooWide, Uneven, HighNet, LonePin}
+use Rattle.refusal.specs.declared.Refusal.the-variants.{TooWide, Uneven, HighNet}
 use Rattle.refusal.specs.Refusals.{numberOf, toldBy, refuseIf, refuseAtFirst, _or-else_}
 use Rattle.refusal.specs.ChainLaws.{or-else-some, refuse-if-some, refuse-at-first-some}
 use Rattle.refusal.specs.ToldLaws.{answered-told}
@@ -22,7 +22,6 @@ use Rattle.channel.specs.Answers.{
   tooWide,
   uneven,
   highNet,
-  lonePin,
   rowsRefusal,
   Escapes,
   rowsAnswer,
@@ -72,15 +71,15 @@ module _ (ch : Channel) where
       let counted = length-map steps (λ (s : Step). s .net) in
       omega (arith, spans-few)
 
-  -- "3 to 6": what rows are refused for
+  -- 3 to 5: what rows are refused for
   module _ (q : Refusal) where
     abbrev Between : Type 0
-    Between = (3 ≤ numberOf q) × (numberOf q ≤ 6)
+    Between = (3 ≤ numberOf q) × (numberOf q ≤ 5)
 
-    by-test : (c : Bool) (r : Refusal) → 3 ≤ numberOf r → numberOf r ≤ 6 → refuseIf c r ≡ some q → Between
+    by-test : (c : Bool) (r : Refusal) → 3 ≤ numberOf r → numberOf r ≤ 5 → refuseIf c r ≡ some q → Between
     by-test c r low high e = let n = ap numberOf (refuse-if-some c r q e .1) in (omega arith, omega arith)
 
-    by-place : (r : ℕ → Refusal) (ps : List ℕ) → ((p : ℕ) → (3 ≤ numberOf (r p)) × (numberOf (r p) ≤ 6))
+    by-place : (r : ℕ → Refusal) (ps : List ℕ) → ((p : ℕ) → (3 ≤ numberOf (r p)) × (numberOf (r p) ≤ 5))
         → refuseAtFirst r ps ≡ some q → Between
     by-place r ps between e =
         let s = refuse-at-first-some r ps q e in
@@ -89,12 +88,9 @@ module _ (ch : Channel) where
         (omega arith, omega arith)
 
     pub rows-numbers : rowsRefusal ch ≡ some q → Between
-    unfolding rowsRefusal tooWide uneven highNet lonePin
+    unfolding rowsRefusal tooWide uneven highNet
     rows-numbers e =
         ⊎-elim (by-test _ (TooWide (suc widest)) (omega arith) (omega arith)) (λ h.
-        ⊎-elim (by-test _ (Uneven _) (omega arith) (omega arith)) (λ h.
-        ⊎-elim (by-place HighNet _ (λ p. (omega arith, omega arith))) (λ h.
-        by-place LonePin _ (λ p. (omega arith, omega arith)) (h .1))
-        (or-else-some (highNet ch) (lonePin ch) q (h .1)))
-        (or-else-some (uneven ch) (highNet ch or-else lonePin ch) q (h .1)))
-        (or-else-some (tooWide ch) (uneven ch or-else highNet ch or-else lonePin ch) q e)
+        ⊎-elim (by-test _ (Uneven _) (omega arith) (omega arith)) (λ g.
+        by-place HighNet _ (λ p. (omega arith, omega arith)) (g .1)) (or-else-some (uneven ch) (highNet ch) q (h .1)))
+        (or-else-some (tooWide ch) (uneven ch or-else highNet ch) q e)

@@ -4,16 +4,19 @@ ghost use Prim.Native.Nat.{ℕ, _≤_};
 ghost use lib.ListN.{length, getD};
 ghost use Rattle.channel.specs.Channel.{highestNet, rows};
 ghost use Rattle.channel.specs.Constraints.{chain};
-ghost use Rattle.channel.specs.Answers.{Escapes, boundsAnswer};
+ghost use Rattle.channel.specs.Answers.{boundsOf, boundsAnswer};
+ghost use Rattle.channel.specs.Parked.{NetsOnly};
 ghost use Rattle.channel.specs.Spans.{each512, firsts, lasts};
 ghost use Rattle.channel.specs.Depths.{filledTo, deeperOver, deepestTo};
 use crate::BoundsAnswer;
 use crate::RowsAnswer;
+use crate::parked::remove_parked;
 use crate::spans::plain_columns;
 use grid::NET_SLOTS;
 use grid::NETS;
+use grid::WIDEST;
 
-// How many nets there are: numbers from 1 on that have a pin.
+// How many nets there are: numbers from 1 on that have a first column.
 fn count_nets(first: &[u32; NET_SLOTS]) -> u32
     ensures { λ r. ⌜ r ≡ filledTo (now (first .entry)) highestNet ⌝ }
 {
@@ -30,7 +33,7 @@ fn count_nets(first: &[u32; NET_SLOTS]) -> u32
 
 // The most nets on a path down from each number, counted one net further than `old` has them.
 fn deeper(top: &[u32], bot: &[u32], old: &[u32; NET_SLOTS]) -> [u32; NET_SLOTS]
-    requires { ⌜ Escapes (rows (now top) (now bot)) × ((n : ℕ) → getD (now old) n 0 ≤ highestNet) ⌝ }
+    requires { ⌜ NetsOnly (rows (now top) (now bot)) × ((n : ℕ) → getD (now old) n 0 ≤ highestNet) ⌝ }
     ensures { λ r.
         ⌜ r
         ≡ each512
@@ -68,9 +71,9 @@ fn deepest(first: &[u32; NET_SLOTS], last: &[u32; NET_SLOTS], depth: &[u32; NET_
     most
 }
 
-// The chain of a channel that escapes refusals 3 to 6: 0 where it is tangled. At most 512 rounds over the columns.
+// The chain of a channel whose rows show nets only: 0 where it is tangled. At most 512 rounds over the columns.
 fn longest_chain(top: &[u32], bot: &[u32], first: &[u32; NET_SLOTS], last: &[u32; NET_SLOTS]) -> u32
-    requires { ⌜ Escapes (rows (now top) (now bot)) × (now first ≡ firsts (rows (now top) (now bot)))
+    requires { ⌜ NetsOnly (rows (now top) (now bot)) × (now first ≡ firsts (rows (now top) (now bot)))
         × (now last ≡ lasts (rows (now top) (now bot))) ⌝ }
     ensures { λ r. ⌜ r ≡ chain (rows (now (top .entry)) (now (bot .entry))) ⌝ }
 {
@@ -88,22 +91,34 @@ fn longest_chain(top: &[u32], bot: &[u32], first: &[u32; NET_SLOTS], last: &[u32
     0
 }
 
-// The density and the chain of rows of any lengths and numbers, or the first of refusals 3 to 6 that applies.
+// The density and the chain of rows that show nets only.
+fn bounds_of_nets(top: &[u32], bot: &[u32]) -> BoundsAnswer
+    requires { ⌜ NetsOnly (rows (now top) (now bot)) ⌝ }
+    ensures { λ r. ⌜ r ≡ boundsOf (rows (now (top .entry)) (now (bot .entry))) ⌝ }
+{
+    let s = crate::spans::find_spans(top, bot);
+    let typed_first = s.first;
+    let typed_last = s.last;
+    let first = plain_columns(typed_first);
+    let last = plain_columns(typed_last);
+    BoundsAnswer::Bounds {
+        density: crate::density::greatest_density(top, bot, s),
+        chain: longest_chain(top, bot, &first, &last),
+    }
+}
+
+// The density and the chain of rows of any lengths and numbers, or the first of refusals 3 to 5 that applies.
 pub fn bounds(top: &[u32], bot: &[u32]) -> BoundsAnswer
     ensures { λ r. ⌜ r ≡ boundsAnswer (rows (now (top .entry)) (now (bot .entry))) ⌝ }
 {
     match crate::check(top, bot) {
         RowsAnswer::Refused(refusal) => BoundsAnswer::Refused(refusal),
         RowsAnswer::Accepted => {
-            let s = crate::spans::find_spans(top, bot);
-            let typed_first = s.first;
-            let typed_last = s.last;
-            let first = plain_columns(typed_first);
-            let last = plain_columns(typed_last);
-            BoundsAnswer::Bounds {
-                density: crate::density::greatest_density(top, bot, s),
-                chain: longest_chain(top, bot, &first, &last),
-            }
+            let w = top.len();
+            let mut upper = [0u32; WIDEST];
+            let mut lower = [0u32; WIDEST];
+            remove_parked(top, bot, &mut upper, &mut lower);
+            bounds_of_nets(&upper[..w], &lower[..w])
         }
     }
 }

@@ -1,6 +1,7 @@
 // A channel handed over as two rows of net numbers, and what is answered about it.
 mod chain;
 mod density;
+mod parked;
 mod rows;
 mod spans;
 
@@ -8,6 +9,7 @@ pub use chain::bounds;
 pub use density::Starting;
 pub use density::greatest_density;
 pub use density::nets_starting;
+pub use parked::remove_parked;
 use refusal::Refusal;
 pub use rows::check;
 pub use spans::Span;

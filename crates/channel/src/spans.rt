@@ -5,14 +5,14 @@ ghost use Prim.Native.Nat.{_≤_};
 ghost use lib.ListN.{set};
 ghost use Rattle.grid.specs.Pieces.{column};
 ghost use Rattle.channel.specs.Channel.{highestNet, rows};
-ghost use Rattle.channel.specs.Answers.{Escapes};
 ghost use Rattle.channel.specs.Spans.{SpansFound};
+ghost use Rattle.channel.specs.Parked.{NetsOnly};
 ghost use Rattle.channel.specs.Starts.{firstNoted};
 use grid::Column;
 use grid::NET_SLOTS;
 use grid::Net;
 
-// The columns of each net, by its number; column 0 where a number has no pin.
+// The columns of each net, by its number; column 0 where a number is no net's.
 pub struct Spans {
     pub first: [Column; NET_SLOTS],
     pub last: [Column; NET_SLOTS],
@@ -65,9 +65,9 @@ fn note(first: &mut [u32; NET_SLOTS], last: &mut [u32; NET_SLOTS], n: Net, c: Co
     last[i] = c.0;
 }
 
-// The spans of a channel that escapes refusals 3 to 6.
+// The spans of a channel whose rows show nets only. What is noted of number 0, which is no net's, is cleared.
 pub fn find_spans(top: &[u32], bot: &[u32]) -> Spans
-    requires { ⌜ Escapes (rows (now top) (now bot)) ⌝ }
+    requires { ⌜ NetsOnly (rows (now top) (now bot)) ⌝ }
     ensures { λ r. ⌜ SpansFound (rows (now (top .entry)) (now (bot .entry))) r ⌝ }
 {
     let mut first = [0u32; NET_SLOTS];
@@ -79,6 +79,8 @@ pub fn find_spans(top: &[u32], bot: &[u32]) -> Spans
         note(&mut first, &mut last, Net(bot[i]), c);
         i += 1;
     }
+    first[0] = 0;
+    last[0] = 0;
     Spans {
         first: typed_columns(first),
         last: typed_columns(last),

@@ -24,7 +24,7 @@ trackIn tracks n = getD tracks n (track 0) .0
 unfoldable pub drawnBy : Channel → List Track → ℕ → Layout
 drawnBy ch tracks t = record { tracks = t; pieces = drawNets ch t (trackIn tracks) }
 
--- the channel escapes refusals 3 to 6, and each net with a span has a track of 1 to t, t being at most 511
+-- the channel escapes refusals 3 to 5, and each net with a span has a track of 1 to t, t being at most 511
 pub record Tracked (ch : Channel) (tracks : List Track) (t : ℕ) : Type 0 where
   pub escapes : Escapes ch
   pub few : t ≤ 511

@@ -22,14 +22,14 @@ use Rattle.grid.specs.declared.Piece.{Piece}
 use Rattle.grid.specs.declared.Piece.the-variants.{Trunk, Branch, Contact}
 use Rattle.grid.specs.Pieces.{column, track, row}
 use Rattle.grid.specs.Words.{lineOf, fromOf, toOf}
-use Rattle.channel.specs.Channel.{Channel, width, nets, holdsNet, hasSpan, firstColumn, lastColumn}
-use Rattle.channel.specs.Channel.{highestNet, hasPin, pinColumns}
+use Rattle.channel.specs.Channel.{Channel, width, nets, isNet, hasSpan, firstColumn, lastColumn}
+use Rattle.channel.specs.Channel.{highestNet, stands, hasPin, pinColumns}
 use Rattle.channel.specs.declared.spans.Spans.{Spans}
 use Rattle.channel.specs.Answers.{Escapes}
 use Rattle.channel.specs.Spans.{each512, SpansFound}
 use Rattle.channel.specs.Laws.{PinIn, pin-column, pin-after-first, pin-before-last, pin-in-first, pin-in-last}
-use Rattle.channel.specs.Laws.{positive-net, counted→pin, pin→counted}
-use Rattle.channel.specs.SpanLaws.{IsNet, holds→, →holds, nets→, →spanning}
+use Rattle.channel.specs.Laws.{net→pin}
+use Rattle.channel.specs.SpanLaws.{IsNet, nets→, →spanning}
 use Rattle.boardfile.specs.Encode.{word, header, encode}
 use Rattle.boardfile.specs.Code.{SmallWords}
 use Rattle.leftedge.specs.Items.{Place, trackOf}
@@ -45,8 +45,8 @@ at-array xs zero h = absurd (omega arith)
 at-array xs (suc i) h = at-suc xs i ∙ ap (λ (k : ℕ). getD xs k 0) (omega arith)
 
 module _ (ch : Channel) (n c : ℕ) (h : 1 ≤ c) where
-  pub has-pin-array : hasPin ch n c ≡ (eqb (getD (ch .top) (c - 1) 0) n || eqb (getD (ch .bot) (c - 1) 0) n)
-  has-pin-array = rw (at-array (ch .top) c h, at-array (ch .bot) c h)
+  pub stands-array : stands ch n c ≡ (eqb (getD (ch .top) (c - 1) 0) n || eqb (getD (ch .bot) (c - 1) 0) n)
+  stands-array = rw (at-array (ch .top) c h, at-array (ch .bot) c h)
 
   pub column-array : (t k : ℕ) (low high : Row) → low ≡ row (cond (eqb (getD (ch .bot) (c - 1) 0) n) 0 k)
       → high ≡ row (cond (eqb (getD (ch .top) (c - 1) 0) n) (t + 1) k)
@@ -73,22 +73,22 @@ drawn-by ch t ps tracks e = λ i. record { tracks = t; pieces = same i }
 
 -- a number from 1 on is a net's exactly if its first column is not 0
 module _ (ch : Channel) (esc : Escapes ch) (n : ℕ) where
-  first→net : 1 ≤ n → (firstColumn ch n ≡ 0 → ⊥) → holdsNet ch n ≡ true
+  first→net : (firstColumn ch n ≡ 0 → ⊥) → isNet ch n ≡ true
   unfolding firstColumn headOr
-  first→net h f = go (pinColumns ch n) refl f
+  first→net f = go (pinColumns ch n) refl f
     where
-      go : (cs : List ℕ) → pinColumns ch n ≡ cs → (headOr 0 cs ≡ 0 → ⊥) → holdsNet ch n ≡ true
+      go : (cs : List ℕ) → pinColumns ch n ≡ cs → (headOr 0 cs ≡ 0 → ⊥) → isNet ch n ≡ true
       go [] e g = absurd (g refl)
       go (c ∷ cs) e g =
           let p = pin-column ch n c (subst (λ (l : List ℕ). List·Memᴰ c l) (sym e) (List·Memᴰ·head refl)) in
-          T→true (holdsNet ch n) (→holds ch n (positive-net ch n h) (pin→counted ch n c (esc .even) p))
+          T→true (isNet ch n) (p .net)
 
-  no-first→none : firstColumn ch n ≡ 0 → holdsNet ch n ≡ false
-  no-first→none e = fails→false (holdsNet ch n) go
+  no-first→none : firstColumn ch n ≡ 0 → isNet ch n ≡ false
+  no-first→none e = fails→false (isNet ch n) go
     where
-      go : T (holdsNet ch n) → ⊥
+      go : T (isNet ch n) → ⊥
       go t =
-          let r = counted→pin ch n (esc .even) (holds→ ch n t .1) in
+          let r = net→pin ch n (esc .even) t in
           let f = pin-in-first ch n (r .0) (r .1) .first in
           omega arith
 
@@ -100,24 +100,27 @@ module _ (ch : Channel) (esc : Escapes ch) (s : Spans) (found : SpansFound ch s)
   pub last-is : getD (s .last) n (column 0) ≡ column (lastColumn ch n)
   last-is = rw (found .last) (getD-made column (lastColumn ch) 512 n (omega arith))
 
-  pub spans→net : 1 ≤ n → (columnIn (s .first) n ≡ 0 → ⊥) → holdsNet ch n ≡ true
-  spans→net h f = first→net ch esc n h (λ z. f (rw (columnIn, first-is) z))
+  pub spans→net : (columnIn (s .first) n ≡ 0 → ⊥) → isNet ch n ≡ true
+  spans→net f = first→net ch esc n (λ z. f (rw (columnIn, first-is) z))
 
-  pub spans→none : columnIn (s .first) n ≡ 0 → holdsNet ch n ≡ false
+  pub spans→none : columnIn (s .first) n ≡ 0 → isNet ch n ≡ false
   spans→none z = no-first→none ch esc n (rw (columnIn, first-is) at z)
 
   pub spans→stands : 1 ≤ n → (columnIn (s .first) n ≡ 0 → ⊥)
       → StandsIn ch n (columnIn (s .first) n) (columnIn (s .last) n)
   spans→stands h f =
-      let net = holds→ ch n (true→T (holdsNet ch n) (spans→net h f)) in
       record {
         escapes = esc;
-        isNet = record { isNet = net .0; positive = h; low = low; counted = net .1 };
+        isNet = record { isNet = true→T (isNet ch n) (spans→net f); positive = h; low = low };
         begins = rw (columnIn, first-is);
         ends = rw (columnIn, last-is);
       }
 
 module _ (ch : Channel) (n first last : ℕ) (s : StandsIn ch n first last) where
+  -- the number of a net stands where the net has a pin
+  pub net-stands : (c : ℕ) → stands ch n c ≡ hasPin ch n c
+  net-stands c = sym (rw (T→true (isNet ch n) (s .isNet .isNet)))
+
   pub stands-inside : (1 ≤ first) × (first ≤ last) × (last ≤ width ch)
   stands-inside =
       let e = s .begins in
@@ -258,19 +261,19 @@ module _ (ch : Channel) (tracks : List Track) (t : ℕ) where
             let r = each-member drawnNet (nets ch) m in
             net-small (h .tracked) (r .0) (nets→ ch (r .0) (r .1)) (r .2)
 
-    pub drawing-begun : Put board board 0 0 (each drawnNet (below (holdsNet ch) 1))
+    pub drawing-begun : Put board board 0 0 (each drawnNet (below (isNet ch) 1))
     unfolding each keep from below
     drawing-begun = put-none board 0
 
-    module _ {b : List ℕ} {j : ℕ} (n : ℕ) (so-far : Put board b 0 j (each drawnNet (below (holdsNet ch) n))) where
+    module _ {b : List ℕ} {j : ℕ} (n : ℕ) (so-far : Put board b 0 j (each drawnNet (below (isNet ch) n))) where
       -- so it has room for the next net
-      pub net-room : 1 ≤ n → n ≤ highestNet → holdsNet ch n ≡ true → Room b j (drawnNet n)
+      pub net-room : 1 ≤ n → n ≤ highestNet → isNet ch n ≡ true → Room b j (drawnNet n)
       unfolding nets drawnBy
-      net-room h₁ h₂ e = next-room drawnNet (holdsNet ch) n h₁ so-far highestNet h₂ e drawing-room
+      net-room h₁ h₂ e = next-room drawnNet (isNet ch) n h₁ so-far highestNet h₂ e drawing-room
 
       pub drawing-ended : n ≡ highestNet + 1 → Put board b 0 j (drawnBy ch tracks t .pieces)
       unfolding nets drawnBy below
-      drawing-ended e = subst (λ (m : ℕ). Put board b 0 j (each drawnNet (below (holdsNet ch) m))) e so-far
+      drawing-ended e = subst (λ (m : ℕ). Put board b 0 j (each drawnNet (below (isNet ch) m))) e so-far
 
     -- with the header in front it is the board file
     pub drawing-done : {b board′ : List ℕ} {j : ℕ} → Put board b 0 j (drawnBy ch tracks t .pieces)

@@ -7,12 +7,14 @@ use mathlib.Core.List.{List}
 use mathlib.Core.Bool.{Bool, true, false, cond}
 use lib.ListN.{length}
 use Rattle.lists.specs.Lists.{keep, each, upTo, at}
+use Rattle.lists.specs.Tests.{T→true}
 use Rattle.lists.specs.Ranges.{length-each}
+use Rattle.lists.specs.Tallies.{keep-same}
 use Rattle.lists.specs.Places.{length-from}
 use Rattle.lists.specs.Eaches.{length-each-most, count-both-ways, at-most-two}
-use Rattle.channel.specs.Channel.{Channel, width, nets, hasSpan, hasPin, pinColumns}
+use Rattle.channel.specs.Channel.{Channel, width, isNet, stands, hasPin, pinColumns, nets, hasSpan}
 use Rattle.channel.specs.Answers.{Escapes}
-use Rattle.channel.specs.SpanLaws.{nets-rising}
+use Rattle.channel.specs.SpanLaws.{nets→, nets-rising}
 use Rattle.channel.specs.CountLaws.{nets-few}
 use Rattle.leftedge.specs.Items.{Place, trackOf}
 use Rattle.drawing.specs.Draw.{drawColumn, drawSpan, drawStraight, drawNet, drawNets, draw}
@@ -24,7 +26,10 @@ module _ (ch : Channel) where
   few-columns = omega (arith, count-both-ways (hasPin ch) 2 (nets ch) two (upTo (width ch)), length-from 1 (width ch))
     where
       two : (c : ℕ) → length (keep (λ n. hasPin ch n c) (nets ch)) ≤ 2
-      two c = at-most-two (at (ch .top) c) (at (ch .bot) c) (nets ch) (nets-rising ch)
+      two c =
+          let few = at-most-two (at (ch .top) c) (at (ch .bot) c) (nets ch) (nets-rising ch) in
+          rw (keep-same (λ n. hasPin ch n c) (λ n. stands ch n c) (nets ch)
+          (λ n m. rw (T→true (isNet ch n) (nets→ ch n m .isNet)))) few
 
   net-draws : (t k n : ℕ) → length (drawNet ch t k n) ≤ 1 + 2 * length (pinColumns ch n)
   unfolding drawNet drawSpan drawStraight drawColumn

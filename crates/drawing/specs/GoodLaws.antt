@@ -7,23 +7,27 @@ use mathlib.Core.Logic.{⊎-elim}
 use mathlib.Core.Bool.{Bool, true, false, cond}
 use mathlib.Core.Option.{some, Option·none-ne-some}
 use lib.ListN.{getElem?}
+use lib.Dec.{T}
 use Rattle.lists.specs.Lists.{each}
+use Rattle.lists.specs.Tests.{passes?}
 use Rattle.lists.specs.Members.{each-member}
 use Rattle.lists.specs.Ranges.{place-member}
 use Rattle.lists.specs.Eaches.{one-place}
 use Rattle.grid.specs.declared.Piece.{Piece}
 use Rattle.grid.specs.Pieces.{kindOf, trunkKind}
-use Rattle.channel.specs.Channel.{Channel, nets, hasSpan, pinColumns}
+use Rattle.channel.specs.Channel.{Channel, isParked, isNet, nets, hasSpan, pinColumns}
 use Rattle.channel.specs.Answers.{Escapes}
+use Rattle.channel.specs.ParkedLaws.{parked-no-net}
 use Rattle.channel.specs.SpanLaws.{nets→, nets-rising, pin→net}
 use Rattle.wiring.specs.Pins.{Pin, columnOf, netOf, IsPin}
-use Rattle.wiring.specs.Layouts.{pin, copper, Present, Joined, AllOnGrid, Good, OneTrunkEach}
+use Rattle.wiring.specs.PinLaws.{one-pin}
+use Rattle.wiring.specs.Layouts.{pin, copper, Present, Joined, itself, AllOnGrid, Good, OneTrunkEach}
 use Rattle.wiring.specs.Chains.{joined-trans, joined-sym}
 use Rattle.leftedge.specs.Items.{Place, trackOf}
 use Rattle.leftedge.specs.Nets.{netItems}
 use Rattle.leftedge.specs.Invariants.{FilledBy}
 use Rattle.drawing.specs.Draw.{branchIn, drawColumn, drawSpan, drawStraight, drawNet, draw}
-use Rattle.drawing.specs.Owner.{drawn, net-drawn}
+use Rattle.drawing.specs.Owner.{drawn, drawn-net, net-drawn}
 use Rattle.drawing.specs.Points.{drawn-on-grid}
 use Rattle.drawing.specs.OwnerLaws.{on-tracks, Owns, owns-joined}
 use Rattle.drawing.specs.Reached.{pin-in, hub, reached}
@@ -41,10 +45,19 @@ module _ (ch : Channel) (esc : Escapes ch) (t : ℕ) (ps : List Place) (f : Fill
   net→joined : (x y : Pin) → IsPin ch x → IsPin ch y → netOf ch x ≡ netOf ch y
       → Joined ch (draw ch t ps) (pin x) (pin y)
   unfolding Present
-  net→joined x y isX isY e =
-      let n = netOf ch x in
-      let h = hub ch esc t ps f n (pin→net ch esc n (columnOf x) isX (pin-in ch (esc .even) x n isX refl)) in
-      joined-trans (h .joined x refl) (joined-sym {x = pin y} isY (h .joined y (sym e)))
+  net→joined x y isX isY e = ⊎-elim by-hub alone (passes? (isNet ch (netOf ch x)))
+    where
+      by-hub : T (isNet ch (netOf ch x)) → Joined ch (draw ch t ps) (pin x) (pin y)
+      by-hub net =
+          let n = netOf ch x in
+          let h = hub ch esc t ps f n (pin→net ch esc n (columnOf x) (pin-in ch (esc .even) x n net refl)) in
+          joined-trans (h .joined x refl) (joined-sym {x = pin y} isY (h .joined y (sym e)))
+
+      -- a parked pin is joined to itself
+      alone : (T (isNet ch (netOf ch x)) → ⊥) → Joined ch (draw ch t ps) (pin x) (pin y)
+      alone other =
+          subst (λ (z : Pin). Joined ch (draw ch t ps) (pin x) (pin z)) (one-pin ch (esc .even) x y isX isY e other)
+          itself
 
   floating : (p : Piece) → List·Memᴰ p (draw ch t ps .pieces)
       → (x : Pin) × IsPin ch x × Joined ch (draw ch t ps) (copper p) (pin x)
@@ -90,6 +103,16 @@ module _ (ch : Channel) (esc : Escapes ch) (t : ℕ) (ps : List Place) (f : Fill
       (λ m y k d h. sym (owns-joined ch esc t ps f m (h .1 .2) (net-drawn ch esc t ps m (nets→ ch m k) d)) ∙ h .1 .1)
       i j (a .piece) (b .piece) (a .place) (b .place)
       (a .trunk, (a .pinOf, a .net, a .joined)) (b .trunk, (b .pinOf, b .net, b .joined))
+
+-- 02, Req 04: no piece is joined to a parked pin, since each is drawn by a net, whose pins alone it is joined to
+pub parked-bare : (ch : Channel) → Escapes ch → (t : ℕ) (ps : List Place) → FilledBy (netItems ch) t ps
+    → (x : Pin) → T (isParked ch (netOf ch x)) → (p : Piece) → List·Memᴰ p (draw ch t ps .pieces)
+    → Joined ch (draw ch t ps) (copper p) (pin x) → ⊥
+unfolding Owns
+parked-bare ch esc t ps f x parked p m j =
+    let r = drawn ch esc t ps m in
+    let same = owns-joined ch esc t ps f (r .0) j (r .1) in
+    parked-no-net ch (netOf ch x) parked (subst (λ (n : ℕ). T (isNet ch n)) (sym same) (drawn-net (r .1)))
 
 pub drawn-good : (ch : Channel) → Escapes ch → (t : ℕ) (ps : List Place) → FilledBy (netItems ch) t ps
     → Good ch (draw ch t ps) × OneTrunkEach ch (draw ch t ps)

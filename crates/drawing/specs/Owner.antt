@@ -5,16 +5,16 @@ use mathlib.Core.Path.{_≡_, refl, sym, subst}
 use mathlib.Core.List.{List, List·Memᴰ, List·Memᴰ·head, List·Memᴰ·tail, List·Memᴰ·cases-cons, List·Memᴰ·eq-of-singleton}
 use mathlib.Core.Logic.{⊎-elim}
 use mathlib.Core.Bool.{Bool, true, false, cond}
-use lib.Dec.{ltb→lt, lt→ltb}
+use lib.Dec.{T, ltb→lt, lt→ltb}
 use Rattle.lists.specs.Lists.{each, at}
 use Rattle.lists.specs.Tests.{T→true, true→T, fails→false, false→fails}
 use Rattle.lists.specs.Members.{each-member, in-each}
 use Rattle.grid.specs.declared.Piece.{Piece}
 use Rattle.grid.specs.declared.Piece.the-variants.{Trunk, Branch, Contact}
 use Rattle.grid.specs.Pieces.{column, track, row}
-use Rattle.channel.specs.Channel.{Channel, width, nets, hasSpan, spanning, firstColumn, lastColumn, pinColumns}
+use Rattle.channel.specs.Channel.{Channel, width, isNet, nets, hasSpan, spanning, firstColumn, lastColumn, pinColumns}
 use Rattle.channel.specs.Answers.{Escapes}
-use Rattle.channel.specs.Laws.{PinIn, pin-column, in-pin-columns, pin-in-first, counted→pin}
+use Rattle.channel.specs.Laws.{PinIn, pin-column, in-pin-columns, pin-in-first, net→pin}
 use Rattle.channel.specs.SpanLaws.{IsNet, nets→, →nets, spanning→, →spanning, straight-both}
 use Rattle.leftedge.specs.Items.{Place, trackOf}
 use Rattle.drawing.specs.Draw.{branchIn, drawColumn, drawSpan, drawStraight, drawNet, draw}
@@ -45,14 +45,21 @@ pub data Drawn (ch : Channel) (t : ℕ) (ps : List Place) (n : ℕ) : Piece → 
   contact : {c : ℕ} → List·Memᴰ n (spanning ch) → PinIn ch n c → Drawn ch t ps n (contactPiece ps n c)
   straight : {c : ℕ} → StraightIn ch n c → Drawn ch t ps n (straightPiece t c)
 
+-- which is a net that is routed
+pub drawn-net : {ch : Channel} {t : ℕ} {ps : List Place} {n : ℕ} {p : Piece} → Drawn ch t ps n p → T (isNet ch n)
+drawn-net {ch} {n = n} (trunk s) = spanning→ ch n s .0 .isNet
+drawn-net (branch s q) = q .net
+drawn-net (contact s q) = q .net
+drawn-net (straight r) = r .isNet .isNet
+
 module _ (ch : Channel) (esc : Escapes ch) where
   pub net-pin : (n : ℕ) → IsNet ch n → PinIn ch n (firstColumn ch n)
-  net-pin n h = let r = counted→pin ch n (esc .even) (h .counted) in pin-in-first ch n (r .0) (r .1)
+  net-pin n h = let r = net→pin ch n (esc .even) (h .isNet) in pin-in-first ch n (r .0) (r .1)
 
   -- a pin of a net without a span
   pub straight-in : (n c : ℕ) → IsNet ch n → (firstColumn ch n < lastColumn ch n → ⊥) → PinIn ch n c → StraightIn ch n c
   straight-in n c h s p =
-      let r = straight-both ch esc n c (h .positive) p s in
+      let r = straight-both ch esc n c p s in
       record { isNet = h; noSpan = s; here = r .0; first = p .first; last = p .last; onTop = r .1; onBot = r .2 }
 
   module _ (t : ℕ) (ps : List Place) where

@@ -15,7 +15,7 @@ use Rattle.grid.specs.TouchLaws.{met-branch, crossing-apart, touch-sym}
 use Rattle.channel.specs.Channel.{Channel, spanning, firstColumn, lastColumn}
 use Rattle.channel.specs.Constraints.{Above}
 use Rattle.channel.specs.Answers.{Escapes}
-use Rattle.channel.specs.Laws.{positive-net, above→drop}
+use Rattle.channel.specs.Laws.{above→drop}
 use Rattle.channel.specs.SpanLaws.{spanning→}
 use Rattle.wiring.specs.Pins.{Pin, top, bot, columnOf, rowOf, netOf, PinTouch}
 use Rattle.wiring.specs.Layouts.{Element, pin, copper, Present, Touching, Joined, itself, link}
@@ -66,8 +66,8 @@ module _ (ch : Channel) (esc : Escapes ch) (t : ℕ) (ps : List Place) (f : Fill
           let over : Above ch m n x = record {
             onTop = onTop;
             onBot = onBot;
-            upper = positive-net ch m (spanning→ ch m sm .0 .positive);
-            lower = positive-net ch n (spanning→ ch n sn .0 .positive);
+            upper = spanning→ ch m sm .0 .isNet;
+            lower = spanning→ ch n sn .0 .isNet;
             different = d;
           } in
           let l = f .lower m n x (in-order m sm) (above→drop ch m n x over) in

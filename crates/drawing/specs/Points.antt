@@ -103,7 +103,7 @@ module _ {ch : Channel} {t : ℕ} {ps : List Place} where
       let here : e ≡ x = omega arith in
       let shaft : InShaft ch ps n e y = record {
         pinIn =
-            record { first = r .first; last = r .last; pin = inl (r .onTop) };
+            record { net = r .isNet .isNet; first = r .first; last = r .last; pin = inl (r .onTop) };
         upward = inl (r .onTop);
         downward = inl (r .onBot);
       } in

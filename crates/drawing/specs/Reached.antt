@@ -7,15 +7,16 @@ use mathlib.Core.Path.{_≡_, sym, subst}
 use mathlib.Core.List.{List, List·Memᴰ}
 use mathlib.Core.Logic.{inl, inr, ⊎-elim}
 use lib.ListN.{length}
+use lib.Dec.{T}
 use Rattle.lists.specs.Lists.{at}
 use Rattle.lists.specs.Ends.{at-inside}
 use Rattle.grid.specs.declared.Piece.{Piece}
 use Rattle.grid.specs.Pieces.{trunkKind, branchKind, kindOf, left, right, low, high}
 use Rattle.grid.specs.Touching.{pinMeets, Touch}
 use Rattle.grid.specs.TouchLaws.{contact-meets, touch-sym}
-use Rattle.channel.specs.Channel.{Channel, width, spanning, firstColumn, lastColumn}
+use Rattle.channel.specs.Channel.{Channel, width, isNet, spanning, firstColumn, lastColumn}
 use Rattle.channel.specs.Answers.{Escapes}
-use Rattle.channel.specs.Laws.{PinIn, pin-after-first, pin-before-last}
+use Rattle.channel.specs.Laws.{net-positive, PinIn, pin-after-first, pin-before-last}
 use Rattle.channel.specs.SpanLaws.{IsNet, spanning→, →spanning}
 use Rattle.wiring.specs.Pins.{Pin, top, bot, columnOf, rowOf, netOf, IsPin, PinTouch}
 use Rattle.wiring.specs.Layouts.{Element, pin, copper, Present, Touching, Joined, itself, link}
@@ -32,14 +33,18 @@ use Rattle.drawing.specs.Points.{picked}
 use Rattle.drawing.specs.OwnerLaws.{on-tracks}
 
 -- the column of a net's pin
-pub pin-in : (ch : Channel) → length (ch .bot) ≡ width ch → (x : Pin) (n : ℕ) → 0 < n → netOf ch x ≡ n
+pub pin-in : (ch : Channel) → length (ch .bot) ≡ width ch → (x : Pin) (n : ℕ) → T (isNet ch n) → netOf ch x ≡ n
     → PinIn ch n (columnOf x)
 unfolding columnOf netOf
-pin-in ch even (top c) n h e =
-    let r = at-inside (ch .top) c (omega arith) in record { first = r .0; last = r .1; pin = inl e }
-pin-in ch even (bot c) n h e =
-    let r = at-inside (ch .bot) c (omega arith) in let l = r .1 in
-    record { first = r .0; last = omega arith; pin = inr e }
+pin-in ch even (top c) n net e =
+    let h = net-positive ch n net in
+    let r = at-inside (ch .top) c (omega arith) in
+    record { net = net; first = r .0; last = r .1; pin = inl e }
+pin-in ch even (bot c) n net e =
+    let h = net-positive ch n net in
+    let r = at-inside (ch .bot) c (omega arith) in
+    let l = r .1 in
+    record { net = net; first = r .0; last = omega arith; pin = inr e }
 
 module _ (ch : Channel) (esc : Escapes ch) (t : ℕ) (ps : List Place) (f : FilledBy (netItems ch) t ps) where
   abbrev Linked : Element → Element → Type 0
@@ -103,7 +108,7 @@ module _ (ch : Channel) (esc : Escapes ch) (t : ℕ) (ps : List Place) (f : Fill
 
   module _ (x : Pin) (n : ℕ) (isNet : IsNet ch n) (e : netOf ch x ≡ n) where
     inColumn : PinIn ch n (columnOf x)
-    inColumn = pin-in ch (esc .even) x n (isNet .positive) e
+    inColumn = pin-in ch (esc .even) x n (isNet .isNet) e
 
     module _ (s : List·Memᴰ n (spanning ch)) where
       pin-to-branch : Linked (pin x) (copper (branchOf n (columnOf x)))

@@ -6,7 +6,7 @@ ghost use mathlib.Core.Bool.{cond};
 ghost use lib.ListN.{length};
 ghost use lib.Dec.{eqb};
 ghost use Rattle.grid.specs.Pieces.{row};
-ghost use Rattle.channel.specs.Channel.{rows, hasPin};
+ghost use Rattle.channel.specs.Channel.{rows, stands};
 ghost use Rattle.channel.specs.Spans.{SpansFound};
 ghost use Rattle.drawing.specs.Draw.{drawColumn, drawSpan, drawNet};
 ghost use Rattle.drawing.specs.Putting.{Room, Put};
@@ -29,10 +29,10 @@ fn put(board: &mut [u8], count: u32, piece: Piece) -> u32
     count + 1
 }
 
-// Column c has a pin of net n.
+// Column c has a pin of number n.
 fn has_pin(top: &[u32], bot: &[u32], n: Net, c: Column) -> bool
     requires { ⌜ (1 ≤ c .0) × (c .0 ≤ length (now top)) × (length (now bot) ≡ length (now top)) ⌝ }
-    ensures { λ r. ⌜ r ≡ hasPin (rows (now (top .entry)) (now (bot .entry))) (n .0) (c .0) ⌝ }
+    ensures { λ r. ⌜ r ≡ stands (rows (now (top .entry)) (now (bot .entry))) (n .0) (c .0) ⌝ }
 {
     let i = c.0 as usize - 1;
     (top[i] == n.0) | (bot[i] == n.0)

@@ -1,5 +1,6 @@
--- 01, "Bench examples (* proved)": A to J come out of the definitions as the paper prints them, by one computed check.
-use Prim.Native.Nat.{ℕ, zero, suc, _+_}
+-- 01, "Bench examples (* proved)", and 02, Req 04: A to J come out of the definitions as the paper prints them, and
+-- channels with parked pins as Req 04 says, by one computed check.
+use Prim.Native.Nat.{ℕ, zero, suc}
 use mathlib.Core.Path.{_≡_, refl}
 use mathlib.Core.List.{List, [], _∷_, _++_, map}
 use mathlib.Core.Bool.{Bool, true, false, _&&_}
@@ -10,16 +11,16 @@ use Rattle.lists.specs.Bytes.{bytes, digitsOf}
 use Rattle.refusal.specs.Refusals.{refuseIf, refuseAtFirst, _or-else_, answered, filledUnless}
 use Rattle.refusal.specs.Trays.{shortTray, scratchTray}
 use Rattle.grid.specs.declared.Piece.{Piece}
-use Rattle.grid.specs.declared.Piece.the-variants.{Trunk, Branch}
+use Rattle.grid.specs.declared.Piece.the-variants.{Trunk, Branch, Contact}
 use Rattle.grid.specs.Pieces.{column, track, row, kindOf, left, right, low, high}
 use Rattle.grid.specs.Words.{lineOf, fromOf, toOf, fieldsRight, makePiece}
 use Rattle.grid.specs.Touching.{kindsMeet, pinMeets, covers, touches}
-use Rattle.channel.specs.Channel.{width, isNet, holdsNet, pinColumns, firstColumn, lastColumn, pinCount}
+use Rattle.channel.specs.Channel.{width, pinCount, isNet, pinColumns, firstColumn, lastColumn}
 use Rattle.channel.specs.Channel.{nets, hasSpan, spanning}
 use Rattle.channel.specs.Spans.{starting}
 use Rattle.channel.specs.Density.{spansOver, spansOf, density}
 use Rattle.channel.specs.Constraints.{above, drops, depth, chain}
-use Rattle.channel.specs.Answers.{tooWide, uneven, highNet, lonePin, rowsRefusal, boundsAnswer, boundsTold}
+use Rattle.channel.specs.Answers.{tooWide, uneven, highNet, rowsRefusal, boundsAnswer, boundsTold}
 use Rattle.wiring.specs.Pins.{columnOf, rowOf, netOf, pinTouches}
 use Rattle.pinlist.specs.Reader.{afterNumber, lineStep, topStep, botStep, step, atEnd, readFrom, readText}
 use Rattle.pinlist.specs.Answers.{garbledRefusal, channelOf, textChannel, textRefusal}
@@ -75,6 +76,21 @@ textF = bytes "TOP 0\nBOT 0\n"
 abbrev textG : List ℕ
 textG = bytes "TOP 5\nBOT 5\n"
 
+-- 02, Req 04: "example L becomes a board with no tracks"
+abbrev textL : List ℕ
+textL = bytes "TOP 1 0\nBOT 0 0\n"
+
+-- a parked pin opposite a net's pin, and one between a net's pins
+abbrev opposite : List ℕ
+opposite = bytes "TOP 1 0 2\nBOT 0 0 1\n"
+
+abbrev between : List ℕ
+between = bytes "TOP 1 2 1\nBOT 0 0 0\n"
+
+-- copper that is joined to the parked pin of `between` alone: it crosses the trunk and does not touch it
+abbrev stub : Piece
+stub = Branch (column 2) (row 1) (row 2)
+
 -- what the router tells of rows with buffers of the sizes asked: the number, then the values
 abbrev routed : List ℕ → List ℕ
 routed text =
@@ -127,15 +143,22 @@ pub starred :
     ∷ same (judgedWith textA (without 8)) (12 ∷ 6 ∷ [])
     ∷ same (judgedWith textA (λ ps. set ps 3 (Branch (column 2) (row 1) (row 3)))) (11 ∷ 3 ∷ [])
     ∷ same (judgedWith textA (λ ps. ps ++ (Trunk (track 2) (column 3) (column 4) ∷ []))) (13 ∷ 12 ∷ [])
+    ∷ same (listingOutput textL) (bytes "BOARD 2 0 8\nBOUND 0 0\nEND 0\n")
+    ∷ same (boardOutput textL) (0x00 ∷ 0x80 ∷ 0x00 ∷ 0x00 ∷ [])
+    ∷ same (judgeOutput textL (boardOutput textL)) (bytes "GOOD 0\n")
+    ∷ same (listingOutput opposite) (bytes "BOARD 3 1 8\nBOUND 1 1\nNET 1 1 3 1\nEND 5\n")
+    ∷ same (judgedWith opposite (λ ps. ps)) (0 ∷ 1 ∷ [])
+    ∷ same (judgedWith between (λ ps. ps ++ (stub ∷ []))) (0 ∷ 1 ∷ [])
+    ∷ same (judgedWith between (λ ps. ps ++ (stub ∷ Contact (column 2) (track 1) ∷ []))) (11 ∷ 2 ∷ [])
     ∷ [])
     ≡ true
 unfolding
     keep each anyOf allOf from headOr lastOr greatest least at bytes digitsOf refuseIf refuseAtFirst _or-else_ answered
     filledUnless shortTray
     kindOf left right low high lineOf fromOf toOf fieldsRight makePiece kindsMeet pinMeets covers touches
-    isNet holdsNet pinColumns firstColumn lastColumn pinCount nets hasSpan spanning
+    pinCount isNet pinColumns firstColumn lastColumn nets hasSpan spanning
     spansOver spansOf density above drops depth chain
-    tooWide uneven highNet lonePin rowsRefusal boundsAnswer boundsTold columnOf rowOf netOf pinTouches
+    tooWide uneven highNet rowsRefusal boundsAnswer boundsTold columnOf rowOf netOf pinTouches
     afterNumber lineStep topStep botStep step atEnd readFrom readText garbledRefusal channelOf textRefusal
     isPlaced trackOf fits clearBelow scan orElse fillFrom fillItems firstDrop fromVisit walk ringOf ringNumbers starting
     fillOrder netItems fill recordOf records

@@ -21,7 +21,7 @@ use Rattle.judge.specs.Finding.{finding}
 unfoldable pub wrongBoard : Channel → List ℕ → Option Refusal
 wrongBoard ch board = refuseIf (not (eqb (fileWidth board) (width ch))) (WrongBoard (fileWidth board))
 
--- 1, 3 to 6, 8 to 10, where scratch of this length is lent
+-- 1, 3 to 5, 8 to 10, where scratch of this length is lent
 unfoldable pub judgeRefusal : Channel → List ℕ → ℕ → Option Refusal
 judgeRefusal ch board scratch =
     shortTray (record { lent = scratch; needed = scratchTray } ∷ []) or-else rowsRefusal ch or-else openRefusal board

@@ -8,7 +8,7 @@ use Rattle.lists.specs.Lists.{overlay}
 use Rattle.grid.specs.declared.Track.{Track}
 use Rattle.grid.specs.Pieces.{track}
 use Rattle.channel.specs.Channel.{Channel, spanning}
-use Rattle.channel.specs.Answers.{Escapes}
+use Rattle.channel.specs.Parked.{NetsOnly}
 use Rattle.channel.specs.Spans.{each512}
 use Rattle.leftedge.specs.declared.Outcome.{Outcome}
 use Rattle.leftedge.specs.declared.Outcome.the-variants.{Placed, Stuck}
@@ -49,7 +49,7 @@ pub record RingShown (ch : Channel) (left ring : List ℕ) (r : ℕ) (ring′ : 
 -- the state in which the walk begins: the first `count` of `left` are the nets left by a fill that is stuck, and just
 -- these have no track among the nets with spans
 pub record WalkFrom (ch : Channel) (tracks left : List ℕ) (count : ℕ) : Type 0 where
-  pub escapes : Escapes ch
+  pub only : NetsOnly ch
   pub fits : count ≤ length left
   pub stuck-with : StuckWith (netItems ch) (take count left)
   pub unplaced : (n : ℕ) → List·Memᴰ n (spanning ch) → (getD tracks n 0 ≡ 0) ↔ List·Memᴰ n (take count left)

@@ -13,8 +13,10 @@ use Rattle.lists.specs.Tests.{true→T, same-test, eq→T, fails→false, false
 use Rattle.lists.specs.Tests.{not-passes, not-fails}
 use Rattle.lists.specs.Arrays.{numbered-replicate, numbered-same, set-numbered}
 use Rattle.channel.specs.Channel.{Channel, width}
-use Rattle.channel.specs.Laws.{net-positive, positive-net}
+use Rattle.channel.specs.Laws.{net-positive}
 use Rattle.channel.specs.Spans.{each512}
+use Rattle.channel.specs.Parked.{NetsOnly}
+use Rattle.channel.specs.ParkedLaws.{top-net, bot-net}
 use Rattle.leftedge.specs.Marked.{overUnplaced}
 use Rattle.leftedge.specs.MarkedLaws.{over→, →over}
 use Rattle.leftedge.specs.Ring.{lowestDrop}
@@ -78,16 +80,16 @@ module _ (ch : Channel) (tracks : List ℕ) where
         sym up,
       )
 
-  free→over : (i n : ℕ) → FreeDrop tracks (getD (ch .top) i 0) (getD (ch .bot) i 0) → n ≡ getD (ch .top) i 0
-      → T (overUnplaced ch tracks n (suc i))
+  free→over : NetsOnly ch → (i n : ℕ) → FreeDrop tracks (getD (ch .top) i 0) (getD (ch .bot) i 0)
+      → n ≡ getD (ch .top) i 0 → T (overUnplaced ch tracks n (suc i))
   unfolding at
-  free→over i n h e =
+  free→over only i n h e =
       →over ch tracks n _ (suc i)
       (record {
         onTop = sym e;
         onBot = refl;
-        upper = positive-net ch n (rw e (h .upper));
-        lower = positive-net ch _ (h .lower);
+        upper = top-net only (suc i) n (sym e) (rw e (h .upper));
+        lower = bot-net only (suc i) _ refl (h .lower);
         different = λ q. h .different (sym e ∙ q);
       })
       (h .free)
@@ -107,10 +109,10 @@ module _ (ch : Channel) (tracks : List ℕ) where
       go true = refl
       go false = refl
 
-  drop-stored : (i : ℕ) → i < width ch → getD (ch .top) i 0 < 512
+  drop-stored : NetsOnly ch → (i : ℕ) → i < width ch → getD (ch .top) i 0 < 512
       → dropsFree tracks (getD (ch .top) i 0) (getD (ch .bot) i 0) ≡ true
       → set (each512 (dropFrom ch tracks (suc i))) (getD (ch .top) i 0) (suc i) ≡ each512 (dropFrom ch tracks i)
-  drop-stored i h low t =
+  drop-stored only i h low t =
       set-numbered (dropFrom ch tracks (suc i)) 512 (getD (ch .top) i 0) (suc i) low
       ∙ numbered-same _ (dropFrom ch tracks i) 512 (λ n k.
       ap (λ (x : Bool). cond x (suc i) (dropFrom ch tracks (suc i) n)) (sym (test n)) ∙ sym (drop-step i n h))
@@ -118,7 +120,7 @@ module _ (ch : Channel) (tracks : List ℕ) where
       test : (n : ℕ) → overUnplaced ch tracks n (suc i) ≡ eqb n (getD (ch .top) i 0)
       test n =
           same-test _ _ (λ u. eq→T n _ (over→free i n u .1))
-          (λ e. free→over i n (free→ tracks _ _ (true→T _ t)) (eqb→eq n _ e))
+          (λ e. free→over only i n (free→ tracks _ _ (true→T _ t)) (eqb→eq n _ e))
 
   drop-passed : (i : ℕ) → i < width ch → dropsFree tracks (getD (ch .top) i 0) (getD (ch .bot) i 0) ≡ false
       → each512 (dropFrom ch tracks (suc i)) ≡ each512 (dropFrom ch tracks i)
@@ -144,10 +146,10 @@ module _ (ch : Channel) (tracks : List ℕ) where
       (λ n h. ap (λ (k : ℕ). headOr 0 (keep (overUnplaced ch tracks n) (from 1 k))) (omega arith))
 
   -- the same in the code's words, with the column before i as j
-  pub drop-more : (i j : ℕ) → i ≡ j + 1 → i ≤ width ch → getD (ch .top) j 0 < 512
+  pub drop-more : NetsOnly ch → (i j : ℕ) → i ≡ j + 1 → i ≤ width ch → getD (ch .top) j 0 < 512
       → dropsFree tracks (getD (ch .top) j 0) (getD (ch .bot) j 0) ≡ true
       → set (each512 (dropFrom ch tracks i)) (getD (ch .top) j 0) (j + 1) ≡ each512 (dropFrom ch tracks j)
-  drop-more i j e h low t = rw (e, add-one) (drop-stored j (omega arith) low t)
+  drop-more only i j e h low t = rw (e, add-one) (drop-stored only j (omega arith) low t)
 
   pub drop-same : (i j : ℕ) → i ≡ j + 1 → i ≤ width ch
       → dropsFree tracks (getD (ch .top) j 0) (getD (ch .bot) j 0) ≡ false

@@ -19,6 +19,7 @@ use Rattle.lists.specs.Orders.{sublist-member, sublist-length}
 use Rattle.grid.specs.Pieces.{track}
 use Rattle.channel.specs.Channel.{Channel, width, spanning}
 use Rattle.channel.specs.Answers.{Escapes}
+use Rattle.channel.specs.Parked.{NetsOnly}
 use Rattle.channel.specs.SpanLaws.{spanning→}
 use Rattle.channel.specs.Spans.{each512, firsts, lasts, starting}
 use Rattle.leftedge.specs.declared.Outcome.the-variants.{Placed, Stuck}
@@ -104,7 +105,10 @@ pub record Underway (ch : Channel) (tracks held : List ℕ) (count done : ℕ) :
   pub counted : count ≡ length ls
   pub long : length held ≡ 512
 
-module _ (ch : Channel) (esc : Escapes ch) where
+module _ (ch : Channel) (only : NetsOnly ch) where
+  abbrev esc : Escapes ch
+  esc = only .escapes
+
   abbrev it : Items
   it = netItems ch
 
@@ -231,7 +235,7 @@ module _ (ch : Channel) (esc : Escapes ch) where
         pub walk-begins : WalkFrom ch tracks′ held′ count
         walk-begins =
             record {
-              escapes = esc;
+              only = only;
               fits = let f = few in let l = d .long in
                   omega arith;
               stuck-with = nets-stuck ch esc (take count held′) track-empty;

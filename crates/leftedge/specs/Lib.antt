@@ -21,3 +21,4 @@ pub mod RingLists
 pub mod DropLaws
 pub mod TrailLaws
 pub mod RingLaws
+pub mod ShownLaws

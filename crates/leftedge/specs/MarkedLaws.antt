@@ -21,7 +21,9 @@ use Rattle.lists.specs.Updates.{set-gives}
 use Rattle.channel.specs.Channel.{Channel, width, firstColumn, lastColumn}
 use Rattle.channel.specs.Constraints.{Above, above}
 use Rattle.channel.specs.Answers.{Escapes}
-use Rattle.channel.specs.Laws.{above→, →above, positive-net, net-positive, counted→pin, pin-in-first}
+use Rattle.channel.specs.Laws.{above→, →above, net-positive, net→pin, pin-in-first}
+use Rattle.channel.specs.Parked.{NetsOnly}
+use Rattle.channel.specs.ParkedLaws.{top-net, bot-net}
 use Rattle.channel.specs.SpanLaws.{spanning→, above-column}
 use Rattle.channel.specs.Spans.{each512, firsts, lasts}
 use Rattle.leftedge.specs.Items.{Items, Place, isPlaced, trackOf, fits, clearBelow}
@@ -111,18 +113,18 @@ module _ (ch : Channel) (tracks : List ℕ) where
     pub different : getD (ch .top) i 0 ≡ getD (ch .bot) i 0 → ⊥
     pub bare : getD tracks (getD (ch .bot) i 0) 0 ≡ 0
 
-  -- a column that does so marks its TOP net, and any other column marks none
-  pub blocking-column : (i : ℕ) → Blocks i → getD (ch .top) i 0 < 512
+  -- a column that does so, in rows that show nets only, marks its TOP net, and any other column marks none
+  pub blocking-column : NetsOnly ch → (i : ℕ) → Blocks i → getD (ch .top) i 0 < 512
       → set (marksTo ch tracks i) (getD (ch .top) i 0) 1 ≡ marksTo ch tracks (i + 1)
-  blocking-column i h low =
+  blocking-column only i h low =
       let p = h .upper in
       let q = h .lower in
       rw add-one (marks-more i (getD (ch .top) i 0) (getD (ch .bot) i 0)
       (record {
         onTop = at-suc (ch .top) i;
         onBot = at-suc (ch .bot) i;
-        upper = positive-net ch _ (omega (arith, p));
-        lower = positive-net ch _ (omega (arith, q));
+        upper = top-net only (suc i) _ (at-suc (ch .top) i) (omega (arith, p));
+        lower = bot-net only (suc i) _ (at-suc (ch .bot) i) (omega (arith, q));
         different = h .different;
       }) (h .bare) low)
 
@@ -230,7 +232,7 @@ module _ (ch : Channel) (esc : Escapes ch) where
   starts-inside : (n : ℕ) → List·Memᴰ n (it .order) → (1 ≤ firstColumn ch n) × (n < 512)
   starts-inside n m =
       let net = spanning→ ch n (order→spanning ch n m) .0 in
-      let pin = counted→pin ch n (esc .even) (net .counted) in
+      let pin = net→pin ch n (esc .even) (net .isNet) in
       let first = pin-in-first ch n (pin .0) (pin .1) in
       (first .first, (let l = net .low in omega arith))
 

@@ -17,7 +17,7 @@ use Rattle.channel.specs.Density.{density}
 use Rattle.channel.specs.Constraints.{drops, Above, Path↓, alone, down, Step, netsOf, Descends, last, next, Ring}
 use Rattle.channel.specs.Constraints.{Unconstrained}
 use Rattle.channel.specs.Answers.{Escapes}
-use Rattle.channel.specs.Laws.{counted→pin, pin-in-first, drop→above}
+use Rattle.channel.specs.Laws.{net→pin, pin-in-first, drop→above}
 use Rattle.channel.specs.SpanLaws.{spanning→, upper-spans, →nets}
 use Rattle.channel.specs.DensityLaws.{netsOver, Over, →over, over≤density}
 use Rattle.leftedge.specs.Items.{Place, trackOf}
@@ -116,7 +116,7 @@ module _ (ch : Channel) (esc : Escapes ch) where
             let top = r .2 in
             let c = firstColumn ch n in
             let net = spanning→ ch n (order→spanning ch n (r .1)) .0 in
-            let some-pin = counted→pin ch n (esc .even) (net .counted) in
+            let some-pin = net→pin ch n (esc .even) (net .isNet) in
             let first = pin-in-first ch n (some-pin .0) (some-pin .1) in
             let gives : (j : ℕ) → List·Memᴰ j (upTo t) → (m : ℕ) × (trackOf ps m ≡ j)
             × List·Memᴰ m (netsOver ch c) = λ j k.

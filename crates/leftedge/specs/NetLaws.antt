@@ -15,7 +15,7 @@ use Rattle.lists.specs.Ends.{keep-rising, rising-distinct}
 use Rattle.channel.specs.Channel.{Channel, width, firstColumn, lastColumn, spanning}
 use Rattle.channel.specs.Constraints.{Above}
 use Rattle.channel.specs.Answers.{Escapes}
-use Rattle.channel.specs.Laws.{drop→above, above→drop, counted→pin, pin-in-first, pin-after-first, pin-before-last}
+use Rattle.channel.specs.Laws.{drop→above, above→drop, net→pin, pin-in-first, pin-after-first, pin-before-last}
 use Rattle.channel.specs.SpanLaws.{spanning→, spanning-rising, lower-spans, upper-pin, lower-pin}
 use Rattle.channel.specs.Spans.{starting}
 use Rattle.leftedge.specs.Nets.{fillOrder, netItems}
@@ -108,7 +108,7 @@ pub spanning→order : (ch : Channel) → length (ch .bot) ≡ width ch → (n :
 unfolding netItems fillOrder
 spanning→order ch even n m =
     let net = spanning→ ch n m .0 in
-    let p = counted→pin ch n even (net .counted) in
+    let p = net→pin ch n even (net .isNet) in
     let first = pin-in-first ch n (p .0) (p .1) in
     in-each (starting ch) (in-upTo (width ch) (firstColumn ch n) (first .first) (first .last)) (→starting ch n m)
 

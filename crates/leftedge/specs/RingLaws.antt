@@ -127,7 +127,7 @@ module _ (ch : Channel) (tracks left : List ℕ) (count : ℕ) (w : WalkFrom ch 
       go false e = refl
       go true e =
           let b = at (ch .bot) c in
-          let u = w .unplaced b (lower-spans ch (w .escapes) (above→ ch n b c (true→T _ e))) in
+          let u = w .unplaced b (lower-spans ch (w .only .escapes) (above→ ch n b c (true→T _ e))) in
           same-test _ _ (λ t. subst (λ (k : ℕ). T (eqb k 0)) (sym (u .1 (isIn→member b ls t))) (eqb-refl 0))
           (λ t. member→isIn (u .0 (eqb→eq (getD tracks b 0) 0 t)))
 
@@ -180,9 +180,9 @@ module _ (ch : Channel) (tracks left : List ℕ) (count : ℕ) (w : WalkFrom ch 
         column : (n : ℕ) → List·Memᴰ n ls → (1 ≤ getD columns n 0) × (getD columns n 0 ≤ length (ch .bot))
         column n m =
             let f = first-drop (netItems ch) ls (w .stuck-with) n m .0 in
-            let c = above-column ch (w .escapes) (falls→above ch n _ _ f) in
+            let c = above-column ch (w .only .escapes) (falls→above ch n _ _ f) in
             let same = ap (λ (d : Drop). d .column) (column-kept n m) in
-            let even = w .escapes .even in
+            let even = w .only .escapes .even in
             omega arith
 
         stays : (n : ℕ) → List·Memᴰ n ls → List·Memᴰ (netBelow (ch .bot) columns n) ls

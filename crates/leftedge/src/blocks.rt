@@ -2,13 +2,13 @@
 // new on it: a net directly above it shares a column with it, and so does not fit on the track anyway.
 ghost use mathlib.Core.Path.{_≡_};
 ghost use Rattle.channel.specs.Channel.{rows};
-ghost use Rattle.channel.specs.Answers.{Escapes};
+ghost use Rattle.channel.specs.Parked.{NetsOnly};
 ghost use Rattle.leftedge.specs.Marked.{blockedMarks};
 use grid::NET_SLOTS;
 
 // For each net number 1 if a net without a track stands directly below it, else 0.
 pub fn blocked(top: &[u32], bot: &[u32], tracks: &[u32; NET_SLOTS]) -> [u8; NET_SLOTS]
-    requires { ⌜ Escapes (rows (now top) (now bot)) ⌝ }
+    requires { ⌜ NetsOnly (rows (now top) (now bot)) ⌝ }
     ensures { λ r.
         ⌜ r ≡ blockedMarks (rows (now (top .entry)) (now (bot .entry))) (now (tracks .entry)) ⌝ }
 {

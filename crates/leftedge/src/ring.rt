@@ -5,7 +5,7 @@ ghost use lib.ListN.{length, take, getD, replicate};
 ghost use Rattle.lists.specs.Lists.{least, overlay};
 ghost use Rattle.refusal.specs.Trays.{ringTray};
 ghost use Rattle.channel.specs.Channel.{rows};
-ghost use Rattle.channel.specs.Answers.{Escapes};
+ghost use Rattle.channel.specs.Parked.{NetsOnly};
 ghost use Rattle.channel.specs.Spans.{each512};
 ghost use Rattle.leftedge.specs.Ring.{lowestDrop, netBelow, pairs, Confined, Trail};
 ghost use Rattle.leftedge.specs.Code.{RingShown, WalkFrom};
@@ -14,7 +14,7 @@ use grid::Net;
 
 // For each net number its lowest column that has a net without a track below it, 0 if there is none.
 fn lowest_drops(top: &[u32], bot: &[u32], tracks: &[u32; NET_SLOTS]) -> [u32; NET_SLOTS]
-    requires { ⌜ Escapes (rows (now top) (now bot)) ⌝ }
+    requires { ⌜ NetsOnly (rows (now top) (now bot)) ⌝ }
     ensures { λ r.
         ⌜ r ≡ each512 (lowestDrop (rows (now (top .entry)) (now (bot .entry))) (now (tracks .entry))) ⌝ }
 {

@@ -6,7 +6,7 @@ ghost use lib.ListN.{length, take};
 ghost use Rattle.refusal.specs.Trays.{ringTray};
 ghost use Rattle.grid.specs.Pieces.{track};
 ghost use Rattle.channel.specs.Channel.{rows};
-ghost use Rattle.channel.specs.Answers.{Escapes};
+ghost use Rattle.channel.specs.Parked.{NetsOnly};
 ghost use Rattle.channel.specs.Spans.{SpansFound};
 ghost use Rattle.leftedge.specs.Code.{FillDone};
 ghost use Rattle.leftedge.specs.Marked.{scanMarked, ScanDone};
@@ -70,10 +70,10 @@ fn typed_tracks(plain: [u32; NET_SLOTS]) -> [Track; NET_SLOTS]
     tracks
 }
 
-// Fills the tracks of a channel that escapes refusals 3 to 6. Where the fill is stuck, the ring's pairs fill the front
-// of `ring`, and no net has a track.
+// Fills the tracks of a channel whose rows show nets only. Where the fill is stuck, the ring's pairs fill the front of
+// `ring`, and no net has a track.
 pub fn fill_tracks(top: &[u32], bot: &[u32], spans: Spans, ring: &mut [u32]) -> Filled
-    requires { ⌜ Escapes (rows (now top) (now bot)) × SpansFound (rows (now top) (now bot)) spans
+    requires { ⌜ NetsOnly (rows (now top) (now bot)) × SpansFound (rows (now top) (now bot)) spans
         × (ringTray ≤ length (now ring)) ⌝ }
     ensures { λ r.
         ⌜ FillDone (rows (now (top .entry)) (now (bot .entry))) (now (ring .entry)) r (now (ring .exit)) ⌝ }

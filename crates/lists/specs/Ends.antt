@@ -1,18 +1,18 @@
 -- The first and the last of those of a range that pass a test: members, and the least and the greatest of them. And a
--- second occurrence where a number does not stand just once.
+-- second occurrence where a number does not stand just once, and none where it does.
 use Prim.Native.Nat.{ℕ, zero, suc, _≤_, _<_}
 use native.Mathlib.Omega.{arith}
 use mathlib.Core.Path.{_≡_, refl, sym, _∙_, ap, subst}
-use mathlib.Core.List.{List, [], _∷_, List·Memᴰ, List·Memᴰ·head, List·Memᴰ·tail, List·Memᴰ·cases-cons}
-use mathlib.Core.List.{List·Memᴰ·not-nil}
+use mathlib.Core.List.{List, [], _∷_, map, List·Memᴰ, List·Memᴰ·head, List·Memᴰ·tail, List·Memᴰ·cases-cons}
+use mathlib.Core.List.{List·Memᴰ·not-nil, Memᴰ·cast}
 use mathlib.Core.Logic.{_⊎_, ⊎-elim}
 use mathlib.Core.Bool.{Bool, true, false, cond, _&&_}
 use lib.ListN.{length, getD}
 use lib.Dec.{T, ltb, eqb, ltb→lt, eqb→eq, eqb-refl}
 use Rattle.lists.specs.Lists.{keep, allOf, from, headOr, lastOr, at, Distinct}
 use Rattle.lists.specs.Pigeonhole.{distinct-cons}
-use Rattle.lists.specs.Tests.{T→true, fails→false, and-left, and-right, equal?}
-use Rattle.lists.specs.Members.{keep-member, from-member, all→member}
+use Rattle.lists.specs.Tests.{T→true, eq→T, fails→false, and-left, and-right, equal?}
+use Rattle.lists.specs.Members.{keep-member, kept, from-member, all→member}
 
 module _ {A : Type 0} where
   pub head-member : (d : A) {xs : List A} {x : A} → List·Memᴰ x xs → List·Memᴰ (headOr d xs) xs
@@ -65,6 +65,14 @@ at-suc row i = refl
 pub at-zero : (row : List ℕ) → at row 0 ≡ 0
 unfolding at
 at-zero row = refl
+
+-- a row in which each number is exchanged, where 0 stays 0
+pub at-map : (f : ℕ → ℕ) → f 0 ≡ 0 → (row : List ℕ) (k : ℕ) → at (map f row) k ≡ f (at row k)
+unfolding at
+at-map f z row zero = sym z
+at-map f z [] (suc k) = sym z
+at-map f z (x ∷ xs) (suc zero) = refl
+at-map f z (x ∷ xs) (suc (suc k)) = at-map f z xs (suc k)
 
 -- a number other than 0 stands at a place of the row
 pub at-inside : (row : List ℕ) (k : ℕ) → 0 < at row k → (1 ≤ k) × (k ≤ length row)
@@ -128,6 +136,49 @@ elsewhere n (x ∷ xs) (suc i) h e c = ⊎-elim here (λ q. there (elsewhere n x
         let below = r .inRow in
         let apart = r .other in
         record { place = suc (r .place); inRow = omega arith; other = omega arith; same = r .same }
+
+-- a number that stands in the row is counted
+pub member-counted : {n : ℕ} {row : List ℕ} → List·Memᴰ n row → 0 < length (keep (eqb n) row)
+member-counted {n} {row} m = some (kept (eqb n) m (eqb-refl n))
+  where
+    some : {x : ℕ} {xs : List ℕ} → List·Memᴰ x xs → 0 < length xs
+    some (List·Memᴰ·head e) = omega arith
+    some (List·Memᴰ·tail k) = omega arith
+
+-- n stands just once: so it stands in no other place
+pub just-once : (n : ℕ) (row : List ℕ) (i j : ℕ) → i < length row → j < length row → getD row i 0 ≡ n
+    → getD row j 0 ≡ n → length (keep (eqb n) row) ≡ 1 → i ≡ j
+unfolding keep
+just-once n [] i j h k e f c = absurd (omega arith)
+just-once n (x ∷ xs) i j h k e f c = ⊎-elim here (there (λ a b. just-once n xs a b)) (equal? n x)
+  where
+    -- where n stands first, none is left behind it
+    none-behind : n ≡ x → (l : ℕ) → l < length (x ∷ xs) → getD (x ∷ xs) l 0 ≡ n → l ≡ 0
+    none-behind q zero b g = refl
+    none-behind q (suc l) b g =
+        let alone = subst (λ (t : Bool). length (cond t (x ∷ keep (eqb n) xs) (keep (eqb n) xs)) ≡ 1)
+        (T→true (eqb n x) (eq→T n x q)) c in
+        let behind = member-counted (Memᴰ·cast (sym g) (getD-member xs l (omega arith))) in
+        absurd (omega arith)
+
+    here : n ≡ x → i ≡ j
+    here q = none-behind q i h e ∙ sym (none-behind q j k f)
+
+    fewer : (n ≡ x → ⊥) → length (keep (eqb n) xs) ≡ 1
+    fewer q =
+        subst (λ (t : Bool). length (cond t (x ∷ keep (eqb n) xs) (keep (eqb n) xs)) ≡ 1)
+        (fails→false (eqb n x) (λ t. q (eqb→eq n x t))) c
+
+    there : ((a b : ℕ) → a < length xs → b < length xs → getD xs a 0 ≡ n → getD xs b 0 ≡ n
+        → length (keep (eqb n) xs) ≡ 1 → a ≡ b) → (n ≡ x → ⊥) → i ≡ j
+    there rest q = behind i j h k e f
+      where
+        behind : (i j : ℕ) → i < length (x ∷ xs) → j < length (x ∷ xs) → getD (x ∷ xs) i 0 ≡ n
+            → getD (x ∷ xs) j 0 ≡ n → i ≡ j
+        behind zero j h k e f = absurd (q (sym e))
+        behind (suc i) zero h k e f = absurd (q (sym f))
+        behind (suc i) (suc j) h k e f =
+            ap suc (rest i j (omega arith) (omega arith) e f (fewer q))
 
 -- `Rising`, as a test
 unfoldable pub rises : List ℕ → Bool

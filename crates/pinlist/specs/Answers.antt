@@ -1,4 +1,4 @@
--- 01, refusals 1 to 6 of a text that is read into two lent rows: the answer, and what each row then holds.
+-- 01, refusals 1 to 5 of a text that is read into two lent rows: the answer, and what each row then holds.
 use Prim.Native.Nat.{ℕ}
 use mathlib.Core.List.{List, [], _∷_}
 use mathlib.Core.Option.{Option, none, some}
@@ -27,11 +27,11 @@ channelOf (garbled n) = channel.rows [] []
 abbrev pub textChannel : List ℕ → Channel
 textChannel text = channelOf (readText text)
 
--- 2 to 6 of a text, in rising number
+-- 2 to 5 of a text, in rising number
 unfoldable pub textRefusal : List ℕ → Option Refusal
 textRefusal text = garbledRefusal (readText text) or-else rowsRefusal (textChannel text)
 
--- 1 to 6, where rows of these lengths are lent
+-- 1 to 5, where rows of these lengths are lent
 unfoldable pub readRefusal : List ℕ → ℕ → ℕ → Option Refusal
 readRefusal text lentTop lentBot =
     shortTray (record { lent = lentTop; needed = rowTray } ∷ record { lent = lentBot; needed = rowTray } ∷ []) or-else

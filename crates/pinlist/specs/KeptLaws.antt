@@ -30,7 +30,7 @@ use Rattle.refusal.specs.declared.Refusal.the-variants.{HighNet}
 use Rattle.refusal.specs.Refusals.{refuseAtFirst, _or-else_}
 use Rattle.refusal.specs.ChainLaws.{refuse-at-first-none, or-else-none}
 use Rattle.channel.specs.Channel.{Channel, positions, highestNet, rows}
-use Rattle.channel.specs.Answers.{tooWide, uneven, highNet, lonePin, rowsRefusal}
+use Rattle.channel.specs.Answers.{tooWide, uneven, highNet, rowsRefusal}
 use Rattle.pinlist.specs.Code.{kept}
 
 abbrev pub keptChannel : Channel → Channel
@@ -108,6 +108,5 @@ kept-refusal ch = go (highNet ch) refl
 pub accepted-same : (ch : Channel) → rowsRefusal ch ≡ none → keptChannel ch ≡ ch
 unfolding rowsRefusal
 accepted-same ch e =
-    let a = or-else-none (tooWide ch) (uneven ch or-else highNet ch or-else lonePin ch) e in
-    let b = or-else-none (uneven ch) (highNet ch or-else lonePin ch) (a .1) in
-    rows-same ch (or-else-none (highNet ch) (lonePin ch) (b .1) .0)
+    let a = or-else-none (tooWide ch) (uneven ch or-else highNet ch) e in
+    rows-same ch (or-else-none (uneven ch) (highNet ch) (a .1) .1)

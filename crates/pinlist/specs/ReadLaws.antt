@@ -25,7 +25,7 @@ use Rattle.channel.specs.declared.RowsAnswer.the-variants as checked
 use Rattle.channel.specs.Channel as channel
 use Rattle.channel.specs.Channel.{Channel, width, widest}
 use Rattle.channel.specs.BoundLaws.{accepted→none, refused→some}
-use Rattle.channel.specs.Answers.{tooWide, uneven, highNet, lonePin, rowsRefusal, rowsAnswer}
+use Rattle.channel.specs.Answers.{tooWide, uneven, highNet, rowsRefusal, rowsAnswer}
 use Rattle.channel.specs.ToldLaws.{rows-numbers}
 use Rattle.pinlist.specs.declared.ReadAnswer.{ReadAnswer}
 use Rattle.pinlist.specs.declared.ReadAnswer.the-variants.{Width, Refused}
@@ -119,7 +119,7 @@ module _ (text top bot : List ℕ) where
   unfolding readRefusal shortTray keep refuseAtFirst _or-else_
   long-rows long₁ long₂ = rw (le-ltb (length top) rowTray long₁, le-ltb (length bot) rowTray long₂)
 
-  -- refusal 2 is that of the text: rows are refused for 3 to 6
+  -- refusal 2 is that of the text: rows are refused for 3 to 5
   text-refusal : (n : ℕ) → (textRefusal text ≡ some (Garbled n)) ↔ (readText text ≡ garbled n)
   unfolding textRefusal garbledRefusal _or-else_
   text-refusal n = (
@@ -203,9 +203,9 @@ module _ (text top bot : List ℕ) where
           ⊎-elim (λ w. or-left one other (lt→ltb widest (length (both .top)) (omega arith)))
           (λ w. or-right one other (lt→ltb widest (length (both .bot)) (omega arith))) h in
           let said = some-refuse-if (one || other) (TooWide (suc widest)) wide in
-          refused (of-rows ∙ some-or-else (tooWide ch) (uneven ch or-else highNet ch or-else lonePin ch) _ said)
+          refused (of-rows ∙ some-or-else (tooWide ch) (uneven ch or-else highNet ch) _ said)
 
-      -- 3 to 6, as the check of the kept rows says them
+      -- 3 to 5, as the check of the kept rows says them
       module _ (narrow₁ : a ≤ widest) (narrow₂ : c ≤ widest) (r : RowsAnswer)
           (check : r ≡ rowsAnswer (channel.rows (take a t′) (take c b′))) where
         said : r ≡ answered checked.Refused (rowsRefusal ch) checked.Accepted

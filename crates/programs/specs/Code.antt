@@ -52,7 +52,7 @@ pub record PinsRefused (text out out′ : List ℕ) (size : ℕ) : Type 0 where
   pub wrote : (output : Channel → List ℕ) → Put out 0 (ofPinList output text) out′ size
   pub few : size ≤ 64
 
--- the rows that a pin list was read into: their fronts of width w are the rows of its channel, which escapes 3 to 6
+-- the rows that a pin list was read into: their fronts of width w are the rows of its channel, which escapes 3 to 5
 pub record ReadRows (text top bot : List ℕ) (w : ℕ) : Type 0 where
   pub passes : true ≡ pinsPass text
   pub top-inside : w ≤ length top

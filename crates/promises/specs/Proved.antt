@@ -1,24 +1,29 @@
--- Demand 3, proved for every channel that escapes refusals 3 to 6. A filled channel's drawing is a good layout with one
--- trunk piece per net; no such layout exists beside a ring; and the fill is filled or stuck.
+-- Demand 3 and Req 04 of 02, proved for every channel that escapes refusals 3 to 5. A filled channel's drawing is a
+-- good layout with one trunk piece per net; no such layout exists beside a ring; and the fill is filled or stuck.
 use Prim.Native.Nat.{ℕ, _≤_, _<_}
 use native.Mathlib.Omega.{arith}
 use native.Mathlib.Decide.{decLt}
-use mathlib.Core.Path.{_≡_, refl}
-use mathlib.Core.List.{List, [], _∷_}
+use mathlib.Core.Path.{_≡_, refl, sym, subst}
+use mathlib.Core.List.{List, [], _∷_, Memᴰ·of-map}
 use mathlib.Core.Logic.{⊎-elim}
 use lib.ListN.{length, length-map}
+use lib.Dec.{T}
 use Rattle.lists.specs.Ranges.{length-each}
 use Rattle.refusal.specs.Trays.{ringTray, boardTray}
-use Rattle.channel.specs.Channel.{Channel, width, highestNet, nets}
+use Rattle.channel.specs.Channel.{Channel, width, highestNet, isParked, nets}
 use Rattle.channel.specs.Density.{density}
 use Rattle.channel.specs.Constraints.{chain, Step, Tangled, Unconstrained}
 use Rattle.channel.specs.Answers.{Escapes}
 use Rattle.channel.specs.CountLaws.{nets-few}
+use Rattle.channel.specs.SpanLaws.{nets→}
+use Rattle.channel.specs.ParkedLaws.{parked-no-net, uncounted}
+use Rattle.channel.specs.ShownLaws.{tangled-shown}
 use Rattle.channel.specs.PathLaws.{path-start-spans}
 use Rattle.channel.specs.ChainLaws.{chain-promise}
 use Rattle.wiring.specs.Layouts.{Good, OneTrunkEach}
 use Rattle.wiring.specs.Order.{no-ring}
 use Rattle.wiring.specs.Floor.{density-floor}
+use Rattle.leftedge.specs.declared.NetRecord.{NetRecord}
 use Rattle.leftedge.specs.Items.{Place}
 use Rattle.leftedge.specs.Fill.{filled, stuck}
 use Rattle.leftedge.specs.FillEnds.{filled-or-stuck}
@@ -30,9 +35,9 @@ use Rattle.boardfile.specs.Encode.{encode}
 use Rattle.boardfile.specs.Promise.{ReadsBack}
 use Rattle.boardfile.specs.RoundTrip.{read-back, encoded-length}
 use Rattle.drawing.specs.Draw.{draw}
-use Rattle.drawing.specs.GoodLaws.{drawn-good}
+use Rattle.drawing.specs.GoodLaws.{drawn-good, parked-bare}
 use Rattle.drawing.specs.CountLaws.{drawn-pieces}
-use Rattle.promises.specs.Router.{Refused, NoLayout, Fewest, Demand3, TraysFit}
+use Rattle.promises.specs.Router.{Refused, NoLayout, Fewest, Req04, Demand3, TraysFit}
 use Rattle.promises.specs.Bounds.{DensityFloor}
 
 pub density-is-floor : DensityFloor
@@ -111,6 +116,19 @@ demand3 ch esc =
         let down = density≤tracks ch esc t ps e in
         let same : t ≡ density ch = omega arith in
         (same, λ l g. let floor = density-floor ch esc l g in omega arith)
+
+-- what Req 04 says of parked pins
+pub req04 : Req04
+unfolding records recordOf
+req04 ch esc =
+    record {
+      no-record = λ ps e m parked. let r = Memᴰ·of-map (recordOf ch ps) (nets ch) m in
+          parked-no-net ch (r .0) (subst (λ (d : NetRecord). T (isParked ch (d .number .0))) (sym (r .2)) parked)
+          (nets→ ch (r .0) (r .1) .isNet);
+      no-copper = λ t ps e. parked-bare ch esc t ps (nets-filled ch esc t ps e);
+      stays-tangled = tangled-shown ch;
+      uncounted = uncounted ch (esc .even);
+    }
 
 -- what is stored fits: at most 511 records, 511 pairs, 511 tracks and 2,559 pieces
 pub trays-fit : (ch : Channel) → Escapes ch → TraysFit ch

@@ -1,17 +1,22 @@
--- Demand 3, and demand 2's reading back, as statements: what is promised of the fill, its refusal as tangled and the
--- drawing, over every layout with any number of tracks and pieces.
+-- Demand 3, Req 04 of 02, and demand 2's reading back, as statements: what is promised of the fill, its refusal as
+-- tangled and the drawing, over every layout with any number of tracks and pieces.
 use Prim.Native.Nat.{ℕ, _≤_}
 use mathlib.Core.Path.{_≡_}
-use mathlib.Core.List.{List}
+use mathlib.Core.List.{List, List·Memᴰ}
 use mathlib.Core.Logic.{_↔_}
 use lib.ListN.{length}
+use lib.Dec.{T}
 use Rattle.refusal.specs.Trays.{recordTray, ringTray, boardTray}
+use Rattle.grid.specs.declared.Piece.{Piece}
 use Rattle.grid.specs.Pieces.{Layout}
-use Rattle.channel.specs.Channel.{Channel, width, nets}
+use Rattle.channel.specs.Channel.{Channel, width, isParked, withoutParked, nets}
 use Rattle.channel.specs.Density.{density}
 use Rattle.channel.specs.Constraints.{chain, Ring, Tangled, Unconstrained}
 use Rattle.channel.specs.Answers.{Escapes}
-use Rattle.wiring.specs.Layouts.{Good, OneTrunkEach}
+use Rattle.channel.specs.Parked.{ParkedBeside}
+use Rattle.wiring.specs.Pins.{Pin, netOf}
+use Rattle.wiring.specs.Layouts.{pin, copper, Joined, Good, OneTrunkEach}
+use Rattle.leftedge.specs.declared.NetRecord.{NetRecord}
 use Rattle.leftedge.specs.Items.{Place}
 use Rattle.leftedge.specs.Fill.{filled, stuck}
 use Rattle.leftedge.specs.Walk.{ringOf, ringNumbers}
@@ -32,6 +37,26 @@ NoLayout ch = (l : Layout) → Good ch l → OneTrunkEach ch l → ⊥
 abbrev pub Fewest : Channel → ℕ → Type 0
 Fewest ch t = (l : Layout) → Good ch l → t ≤ l .tracks
 
+-- 02, Req 04: no piece of the layout is joined to a parked pin
+abbrev pub Bare : Channel → Layout → Type 0
+Bare ch l =
+    (x : Pin) → T (isParked ch (netOf ch x))
+    → (p : Piece) → List·Memᴰ p (l .pieces) → Joined ch l (copper p) (pin x) → ⊥
+
+-- 02, Req 04: of no net record is the number parked
+abbrev pub NoneParked : Channel → List NetRecord → Type 0
+NoneParked ch made = (e : NetRecord) → List·Memᴰ e made → T (isParked ch (e .number .0)) → ⊥
+
+pub record ParkedPromise (ch : Channel) : Type 0 where
+  -- "A net with just one pin is parked: the router gives it no record"
+  pub no-record : (ps : List Place) → NoneParked ch (records ch ps)
+  -- "no copper"
+  pub no-copper : (t : ℕ) (ps : List Place) → fill ch ≡ filled t ps → Bare ch (draw ch t ps)
+  -- "Tangled channels are those that stay so with the parked pins removed"
+  pub stays-tangled : Tangled ch ↔ Tangled (withoutParked ch)
+  -- "Where the owner's promise looks for a column with pins of two different nets, parked pins are not counted"
+  pub uncounted : Unconstrained ch ↔ ParkedBeside ch
+
 pub record RouterPromise (ch : Channel) : Type 0 where
   pub refused-exactly : Refused ch ↔ NoLayout ch
   pub ring-exactly : Refused ch ↔ Tangled ch
@@ -43,6 +68,9 @@ pub record RouterPromise (ch : Channel) : Type 0 where
       → (density ch ≤ t) × (chain ch ≤ t) × (t ≤ length (nets ch))
   pub read-back : (t : ℕ) (ps : List Place) → fill ch ≡ filled t ps
       → ReadsBack (width ch) (draw ch t ps) (encode (width ch) (draw ch t ps))
+
+abbrev pub Req04 : Type 0
+Req04 = (ch : Channel) → Escapes ch → ParkedPromise ch
 
 abbrev pub Demand3 : Type 0
 Demand3 = (ch : Channel) → Escapes ch → RouterPromise ch

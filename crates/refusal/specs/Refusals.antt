@@ -12,7 +12,6 @@ use Rattle.refusal.specs.declared.Refusal.the-variants.{
   TooWide,
   Uneven,
   HighNet,
-  LonePin,
   Tangled,
   Torn,
   BadField,
@@ -20,14 +19,13 @@ use Rattle.refusal.specs.declared.Refusal.the-variants.{
   NoBlank,
 }
 
--- the column "No"
+-- the column "No"; 02, Req 04: "Refusal 6 is no longer given"
 abbrev pub numberOf : Refusal → ℕ
 numberOf (ShortTray p) = 1
 numberOf (Garbled p) = 2
 numberOf (TooWide p) = 3
 numberOf (Uneven p) = 4
 numberOf (HighNet p) = 5
-numberOf (LonePin p) = 6
 numberOf (Tangled p) = 7
 numberOf (Torn p) = 8
 numberOf (BadField p) = 9
@@ -41,7 +39,6 @@ placeOf (Garbled p) = p
 placeOf (TooWide p) = p
 placeOf (Uneven p) = p
 placeOf (HighNet p) = p
-placeOf (LonePin p) = p
 placeOf (Tangled p) = p
 placeOf (Torn p) = p
 placeOf (BadField p) = p

@@ -13,7 +13,7 @@ use Rattle.lists.specs.Lists.{keep}
 use Rattle.lists.specs.Members.{keep-member, kept}
 use Rattle.lists.specs.Ranges.{no-member→empty}
 use Rattle.refusal.specs.declared.Refusal.{Refusal}
-use Rattle.refusal.specs.declared.Refusal.the-variants.{ShortTray, Garbled, TooWide, Uneven, HighNet, LonePin}
+use Rattle.refusal.specs.declared.Refusal.the-variants.{ShortTray, Garbled, TooWide, Uneven, HighNet}
 use Rattle.refusal.specs.declared.Refusal.the-variants.{Tangled, Torn, BadField, WrongBoard, NoBlank}
 use Rattle.refusal.specs.Refusals.{numberOf}
 use Rattle.refusal.specs.ChainLaws.{refuse-at-first-none, none-refuse-at-first}
@@ -51,7 +51,6 @@ refusal-numbered (Garbled p) = omega arith
 refusal-numbered (TooWide p) = omega arith
 refusal-numbered (Uneven p) = omega arith
 refusal-numbered (HighNet p) = omega arith
-refusal-numbered (LonePin p) = omega arith
 refusal-numbered (Tangled p) = omega arith
 refusal-numbered (Torn p) = omega arith
 refusal-numbered (BadField p) = omega arith

@@ -13,7 +13,7 @@ pub const BOARD_TRAY: usize = 10240;
 
 pub const SCRATCH_TRAY: usize = 10238;
 
-// The refusals that an operation may answer, by the shop's words, each with its place.
+// The refusals that an operation may answer, by the shop's words, each with its place. Number 6 is not in use.
 // The judge's faults, numbers 11 to 13, are an enum of their own beside the judge.
 pub enum Refusal {
     // 1: a lent buffer is too short; the length needed
@@ -26,8 +26,6 @@ pub enum Refusal {
     Uneven(usize),
     // 5: a net number over 511; the lowest pin position that holds one
     HighNet(usize),
-    // 6: a net with just one pin; the lowest such net
-    LonePin(usize),
     // 7: the vertical constraint graph has a cycle; the number of pairs in the ring shown
     Tangled(usize),
     // 8: the board file has a wrong length; the length due
@@ -50,7 +48,6 @@ pub fn number_of(refusal: Refusal) -> u32
         Refusal::TooWide(_) => 3,
         Refusal::Uneven(_) => 4,
         Refusal::HighNet(_) => 5,
-        Refusal::LonePin(_) => 6,
         Refusal::Tangled(_) => 7,
         Refusal::Torn(_) => 8,
         Refusal::BadField(_) => 9,
@@ -69,7 +66,6 @@ pub fn place_of(refusal: Refusal) -> usize
         Refusal::TooWide(place) => place,
         Refusal::Uneven(place) => place,
         Refusal::HighNet(place) => place,
-        Refusal::LonePin(place) => place,
         Refusal::Tangled(place) => place,
         Refusal::Torn(place) => place,
         Refusal::BadField(place) => place,

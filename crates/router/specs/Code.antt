@@ -1,9 +1,9 @@
--- What `route` and `route_rows` answer and leave: the equations of Route, and the promise of Contract.
+-- What `route` and `route_rows` answer and leave: the equations of Route, and the promises of Contract.
 use Prim.Native.Nat.{ℕ, _≤_}
 use mathlib.Core.Path.{_≡_}
 use mathlib.Core.List.{List, []}
 use mathlib.Core.Option.{Option, none, some}
-use lib.ListN.{length}
+use lib.ListN.{length, take}
 use Rattle.refusal.specs.declared.Refusal.{Refusal}
 use Rattle.refusal.specs.Trays.{Tray, recordTray, ringTray, boardTray}
 use Rattle.channel.specs.Channel.{Channel}
@@ -22,7 +22,7 @@ use Rattle.router.specs.Route.{
   boardAfter,
   ringAfter,
 }
-use Rattle.router.specs.Contract.{RoutePromise}
+use Rattle.router.specs.Contract.{RoutePromise, ParkedBare}
 use Rattle.router.specs.Tables.{noRecords}
 
 -- the records answered by value: none under a refusal
@@ -36,16 +36,19 @@ module _ (ch : Channel) (table : List NetRecord) (ring board : List ℕ) where
 
   -- What `route` answers, and what the caller's table and buffers then hold. Rules out: rows answered for, with the
   -- board untouched (boardHeld); a record with first and last exchanged, or a table written under a refusal
-  -- (tableHeld); and with the promise the wrong programs of RoutePromise.
+  -- (tableHeld); and with the promises the wrong programs of RoutePromise and ParkedBare.
   pub record RouteDone (r : Routed) (table′ : List NetRecord) (ring′ board′ : List ℕ) : Type 0 where
     pub answer : r .answer ≡ routeAnswer trays ch
     pub counted : r .count ≡ length (recordsUnless (routeRefusal trays ch) (recordsMade ch (fill ch)))
     pub tableHeld : table′ ≡ recordsAfter trays ch table
     pub ringHeld : ring′ ≡ ringAfter trays ch ring
     pub boardHeld : board′ ≡ boardAfter trays ch board
-    -- demand 3 whole, for every channel that escapes refusals 1 to 6
+    -- demand 3 whole, for every channel that escapes refusals 1 to 5
     pub promise : recordTray ≤ length table → ringTray ≤ length ring → boardTray ≤ length board → Escapes ch
         → RoutePromise ch (r .answer) ring′ board′
+    -- and Req 04 of 02
+    pub parked : recordTray ≤ length table → ringTray ≤ length ring → boardTray ≤ length board → Escapes ch
+        → ParkedBare ch (r .answer) (take (r .count) table′) board′
 
 module _ (ch : Channel) (ring board : List ℕ) where
   abbrev buffers : List Tray
@@ -60,6 +63,9 @@ module _ (ch : Channel) (ring board : List ℕ) where
     pub table : r .records ≡ recordsAfter buffers ch noRecords
     pub ringHeld : ring′ ≡ ringAfter buffers ch ring
     pub boardHeld : board′ ≡ boardAfter buffers ch board
-    -- demand 3 whole, for every channel that escapes refusals 1 to 6
+    -- demand 3 whole, for every channel that escapes refusals 1 to 5
     pub promise : ringTray ≤ length ring → boardTray ≤ length board → Escapes ch
         → RoutePromise ch (r .answer) ring′ board′
+    -- and Req 04 of 02
+    pub parked : ringTray ≤ length ring → boardTray ≤ length board → Escapes ch
+        → ParkedBare ch (r .answer) (take (r .count) (r .records)) board′

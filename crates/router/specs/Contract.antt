@@ -1,4 +1,4 @@
--- What the router promises of what the caller then holds: the equations of Route, and demand 3 whole.
+-- What the router promises of what the caller then holds: the equations of Route, demand 3 whole, and Req 04 of 02.
 use Prim.Native.Nat.{ℕ, _+_, _*_, _≤_}
 use mathlib.Core.Path.{_≡_}
 use mathlib.Core.List.{List}
@@ -6,14 +6,16 @@ use mathlib.Core.Logic.{_↔_}
 use mathlib.Core.Option.{none}
 use lib.ListN.{length, take}
 use Rattle.refusal.specs.declared.Refusal.the-variants as refusal
-use Rattle.channel.specs.Channel.{Channel, width, nets}
+use Rattle.channel.specs.Channel.{Channel, width, withoutParked, nets}
 use Rattle.channel.specs.Density.{density}
 use Rattle.channel.specs.Constraints.{chain, Step, Ring, Tangled, Unconstrained}
 use Rattle.wiring.specs.Layouts.{Good, OneTrunkEach}
 use Rattle.leftedge.specs.Walk.{ringNumbers}
 use Rattle.leftedge.specs.Nets.{fill}
 use Rattle.boardfile.specs.Open.{openRefusal, fileWidth, fileTracks, fileCount, fileLayout}
-use Rattle.promises.specs.Router.{NoLayout, Fewest}
+use Rattle.leftedge.specs.declared.NetRecord.{NetRecord}
+use Rattle.channel.specs.Parked.{ParkedBeside}
+use Rattle.promises.specs.Router.{NoLayout, Fewest, Bare, NoneParked}
 use Rattle.router.specs.declared.RouteAnswer.{RouteAnswer}
 use Rattle.router.specs.declared.RouteAnswer.the-variants.{Routed, Refused}
 use Rattle.router.specs.Route.{layoutDrawn, routeTold}
@@ -55,3 +57,16 @@ pub record RoutePromise (ch : Channel) (r : RouteAnswer) (ring board : List ℕ)
   pub fewest : Unconstrained ch → (t n : ℕ) → r ≡ Routed t n → (t ≡ density ch) × Fewest ch t
   -- 01, "Filling tracks": "Density and chain are each at most t, and t is at most the number of nets"
   pub floors : (t n : ℕ) → r ≡ Routed t n → (density ch ≤ t) × (chain ch ≤ t) × (t ≤ length (nets ch))
+
+-- Req 04 of 02, of the answer r and of the records made and the board that the caller then holds. Rules out: a parked
+-- net that gets a record (no-record); one that still blocks a column, for which a channel is called tangled
+-- (tangled-exactly) or tracks are wasted (fewest); copper that ends at a parked pin (no-copper).
+pub record ParkedBare (ch : Channel) (r : RouteAnswer) (made : List NetRecord) (board : List ℕ) : Type 0 where
+  -- "the router gives it no record"
+  pub no-record : NoneParked ch made
+  -- "no copper"
+  pub no-copper : (t n : ℕ) → r ≡ Routed t n → Bare ch (fileLayout (take (4 + 4 * n) board))
+  -- "Tangled channels are those that stay so with the parked pins removed"
+  pub tangled-exactly : (routeTold r .number ≡ 7) ↔ Tangled (withoutParked ch)
+  -- "Where the owner's promise looks for a column with pins of two different nets, parked pins are not counted"
+  pub fewest : ParkedBeside ch → (t n : ℕ) → r ≡ Routed t n → (t ≡ density ch) × Fewest ch t

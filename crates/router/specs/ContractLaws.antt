@@ -1,14 +1,15 @@
--- The equations of Route give the promise: the chain of refusals is silent up to 7 for a channel that escapes, and then
--- it is demand 3.
+-- The equations of Route give the promises: the chain of refusals is silent up to 7 for a channel that escapes, and
+-- then they are demand 3 and Req 04 of 02.
 use Prim.Native.Nat.{ℕ, _+_, _*_}
 use native.Mathlib.Omega.{arith}
 use mathlib.Core.Path.{_≡_, sym, _∙_, ap, subst, subst⁻¹}
-use mathlib.Core.List.{List}
+use mathlib.Core.List.{List, List·Memᴰ·not-nil}
 use mathlib.Core.Logic.{_↔_, _⊎_, ⊎-elim}
-use mathlib.Core.Option.{none}
+use mathlib.Core.Option.{Option, none, some}
 use lib.ListN.{length, take, drop}
 use lib.Seq.{take-at}
 use Rattle.lists.specs.Lists.{overlay}
+use Rattle.refusal.specs.declared.Refusal.{Refusal}
 use Rattle.refusal.specs.declared.Refusal.the-variants as refusal
 use Rattle.refusal.specs.Refusals.{_or-else_, answered, filledUnless}
 use Rattle.refusal.specs.ChainLaws.{none-or-else-later}
@@ -20,7 +21,8 @@ use Rattle.channel.specs.Answers.{Escapes, rowsRefusal}
 use Rattle.channel.specs.EscapeLaws.{accepted-exactly}
 use Rattle.wiring.specs.Layouts.{Good, OneTrunkEach}
 use Rattle.leftedge.specs.Items.{Place}
-use Rattle.leftedge.specs.Fill.{filled, stuck}
+use Rattle.leftedge.specs.declared.NetRecord.{NetRecord}
+use Rattle.leftedge.specs.Fill.{Filling, filled, stuck}
 use Rattle.leftedge.specs.FillEnds.{filled-or-stuck}
 use Rattle.leftedge.specs.Walk.{ringOf, ringNumbers}
 use Rattle.leftedge.specs.Nets.{netItems, fill}
@@ -30,13 +32,15 @@ use Rattle.boardfile.specs.Open.{fileLayout}
 use Rattle.boardfile.specs.FieldLaws.{opened-length}
 use Rattle.boardfile.specs.RoundTrip.{encoded-length}
 use Rattle.drawing.specs.Draw.{draw}
-use Rattle.promises.specs.Router.{Refused, RouterPromise}
-use Rattle.promises.specs.Proved.{demand3}
+use Rattle.promises.specs.Router.{Refused, RouterPromise, Bare, NoneParked}
+use Rattle.promises.specs.Proved.{demand3, req04}
 use Rattle.router.specs.declared.RouteAnswer.{RouteAnswer}
 use Rattle.router.specs.declared.RouteAnswer.the-variants as route
-use Rattle.router.specs.Route.{ringShown, tangled, layoutDrawn, routeRefusal, routeAnswer, boardAfter}
+use Rattle.router.specs.Route.{ringShown, tangled, layoutDrawn, recordsMade, routeRefusal, routeAnswer}
+use Rattle.router.specs.Route.{boardAfter}
 use Rattle.router.specs.Route.{filledUnder7, ringAfter, routeTold}
-use Rattle.router.specs.Contract.{ShowsRing, HoldsLayout, RoutePromise}
+use Rattle.router.specs.Contract.{ShowsRing, HoldsLayout, RoutePromise, ParkedBare}
+use Rattle.router.specs.Code.{recordsUnless}
 
 module _ (trays : List Tray) (ch : Channel) (room : shortTray trays ≡ none) (esc : Escapes ch) where
   -- what is refused is 7 alone
@@ -182,4 +186,30 @@ module _ (trays : List Tray) (ch : Channel) (room : shortTray trays ≡ none) (e
             promise .fewest free t (r .0) (r .1);
         floors = λ t n h. let r = routed-filled t n h in
             promise .floors t (r .0) (r .1);
+      }
+
+  -- the records answered have no parked number: none is made under a refusal, and those made are of nets
+  none-parked : NoneParked ch (recordsUnless (routeRefusal trays ch) (recordsMade ch (fill ch)))
+  unfolding recordsUnless recordsMade
+  none-parked = go (routeRefusal trays ch) (fill ch)
+    where
+      go : (q : Option Refusal) (f : Filling) → NoneParked ch (recordsUnless q (recordsMade ch f))
+      go none (filled t ps) = req04 ch esc .no-record ps
+      go none (stuck left) = λ e m p. List·Memᴰ·not-nil m
+      go (some q) f = λ e m p. List·Memᴰ·not-nil m
+
+  pub route-parked : {made : List NetRecord} → made ≡ recordsUnless (routeRefusal trays ch) (recordsMade ch (fill ch))
+      → (board : List ℕ) → ParkedBare ch (routeAnswer trays ch) made (boardAfter trays ch board)
+  route-parked same board =
+      record {
+        no-record = subst⁻¹ (NoneParked ch) same none-parked;
+        no-copper = λ t n h. let r = routed-filled t n h in
+            subst⁻¹ (Bare ch) (holds-layout board t n h .drawn ∙ ap (layoutDrawn ch) (r .1))
+            (unfold layoutDrawn in (req04 ch esc .no-copper t (r .0) (r .1)));
+        tangled-exactly = (
+          λ h. req04 ch esc .stays-tangled .0 (promise .ring-exactly .0 (seven-exactly .0 h)),
+          λ h. seven-exactly .1 (promise .ring-exactly .1 (req04 ch esc .stays-tangled .1 h)),
+        );
+        fewest = λ beside t n h. let r = routed-filled t n h in
+            promise .fewest (req04 ch esc .uncounted .1 beside) t (r .0) (r .1);
       }

@@ -35,8 +35,8 @@ use Rattle.router.specs.Route.{
   boardAfter,
   ringAfter,
 }
-use Rattle.router.specs.Contract.{RoutePromise}
-use Rattle.router.specs.ContractLaws.{route-promise}
+use Rattle.router.specs.Contract.{RoutePromise, ParkedBare}
+use Rattle.router.specs.ContractLaws.{route-promise, route-parked}
 use Rattle.router.specs.Tables.{nobody, noRecords}
 use Rattle.router.specs.Code.{recordsUnless, RouteDone, RowsDone}
 use Rattle.router.specs.CodeLaws.{HeldBy, Held, room}
@@ -149,17 +149,17 @@ stored none made table = refl
 stored (some q) made table = refl
 
 -- so a table's front, as far as is counted, is the records answered
-front : (q : Option Refusal) (made : List NetRecord) {table : List NetRecord} {count : ℕ}
-    → table ≡ filledUnless q made noRecords → count ≡ length (recordsUnless q made)
+front : (q : Option Refusal) (made lent : List NetRecord) {table : List NetRecord} {count : ℕ}
+    → table ≡ filledUnless q made lent → count ≡ length (recordsUnless q made)
     → take count table ≡ recordsUnless q made
-front q made e n = rw (e, n, ← stored q made noRecords) (overlay-front (recordsUnless q made) noRecords)
+front q made lent e n = rw (e, n, ← stored q made lent) (overlay-front (recordsUnless q made) lent)
 
 -- of the table answered by value: what stands there as far as is counted
 pub rows-front : {ch : Channel} {ring board ring′ board′ : List ℕ} {r : Routing} → RowsDone ch ring board r ring′ board′
     → take (r .count) (r .records)
     ≡ recordsUnless (routeRefusal (routeTrays (length ring) (length board)) ch) (recordsMade ch (fill ch))
 unfolding recordsAfter
-rows-front d = front _ _ (d .table) (d .counted)
+rows-front d = front _ _ _ (d .table) (d .counted)
 
 -- the table stored at the front of the lent one
 pub lent-done : {ch : Channel} {table table′ : List NetRecord} {ring board ring′ board′ : List ℕ}
@@ -172,14 +172,24 @@ lent-done {ch} {table} {table′} {ring} {board} {ring′} {board′} {r} {q} e 
     record {
       answer = a .0 ∙ e .answer;
       counted = a .1 ∙ e .counted;
-      tableHeld = t ∙ rw (front _ _ (e .table) (e .counted)) (stored _ _ table);
+      tableHeld = t ∙ rw (front _ _ _ (e .table) (e .counted)) (stored _ _ table);
       ringHeld = e .ringHeld;
       boardHeld = e .boardHeld;
       promise = promise;
+      parked = parked;
     }
   where
     trays : List Tray
     trays = routeTraysWithRecords (length table) (length ring) (length board)
+
+    parked : recordTray ≤ length table → ringTray ≤ length ring → boardTray ≤ length board → Escapes ch
+        → ParkedBare ch (q .answer) (take (q .count) table′) board′
+    parked ht hr hb esc =
+        let same = same-trays ch (length table) (length ring) (length board) ht in
+        let fits = same ∙ room (length ring) (length board) hr hb in
+        let made = front _ _ table (t ∙ rw (front _ _ _ (e .table) (e .counted)) (stored _ _ table))
+        (a .1 ∙ e .counted) in
+        rw (a .0, e .answer, e .boardHeld) (route-parked trays ch fits esc made board)
 
     promise : recordTray ≤ length table → ringTray ≤ length ring → boardTray ≤ length board → Escapes ch
         → RoutePromise ch (q .answer) ring′ board′
@@ -202,6 +212,7 @@ rows-done {ch} {table} {table′} {ring} {board} {ring′} {board′} {q} {r} bl
       ringHeld = d .ringHeld ∙ same-ring ch size ring board fits;
       boardHeld = d .boardHeld ∙ same-board ch size ring board fits;
       promise = λ hr hb esc. rw (a .0) (d .promise fits hr hb esc);
+      parked = λ hr hb esc. rw (a .0, a .1, a .2) (d .parked fits hr hb esc);
     }
   where
     d : RouteDone ch noRecords ring board q table′ ring′ board′

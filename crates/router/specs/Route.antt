@@ -1,4 +1,4 @@
--- 01, refusals 1 and 3 to 7 of the router: its answer, and what each lent buffer then holds.
+-- 01, refusals 1, 3 to 5 and 7 of the router: its answer, and what each lent buffer then holds.
 use Prim.Native.Nat.{ℕ}
 use mathlib.Core.List.{List, [], _∷_}
 use mathlib.Core.Bool.{cond}
@@ -49,7 +49,7 @@ routeTrays ring board = record { lent = ring; needed = ringTray } ∷ record { l
 abbrev pub routeTraysWithRecords : ℕ → ℕ → ℕ → List Tray
 routeTraysWithRecords table ring board = record { lent = table; needed = recordTray } ∷ routeTrays ring board
 
--- 1, 3 to 7, in rising number
+-- 1, 3 to 5 and 7, in rising number
 unfoldable pub routeRefusal : List Tray → Channel → Option Refusal
 routeRefusal trays ch = shortTray trays or-else rowsRefusal ch or-else tangled ch (fill ch)
 

@@ -20,7 +20,7 @@ use Rattle.refusal.specs.Trays.{recordTray}
 use Rattle.grid.specs.declared.Track.{Track}
 use Rattle.grid.specs.Pieces.{track}
 use Rattle.channel.specs.declared.spans.Spans.{Spans}
-use Rattle.channel.specs.Channel.{Channel, highestNet, holdsNet, nets}
+use Rattle.channel.specs.Channel.{Channel, highestNet, isNet, nets}
 use Rattle.channel.specs.Answers.{Escapes}
 use Rattle.channel.specs.Spans.{each512, SpansFound}
 use Rattle.channel.specs.SpanLaws.{nets→}
@@ -82,14 +82,14 @@ module _ (ch : Channel) (esc : Escapes ch) (s : Spans) (found : SpansFound ch s)
   -- the numbers with a first column are the nets
   firsts-nets : keep (hasFirst s) (upTo highestNet) ≡ nets ch
   unfolding nets
-  firsts-nets = keep-same (hasFirst s) (holdsNet ch) (upTo highestNet) tests
+  firsts-nets = keep-same (hasFirst s) (isNet ch) (upTo highestNet) tests
     where
-      tests : (n : ℕ) → List·Memᴰ n (upTo highestNet) → hasFirst s n ≡ holdsNet ch n
+      tests : (n : ℕ) → List·Memᴰ n (upTo highestNet) → hasFirst s n ≡ isNet ch n
       tests n m =
           let r = upTo-member highestNet m in
           let c = columnIn (s .first) n in
           ⊎-elim (λ z. rw (eq-eqb c 0 z) (sym (spans→none ch esc s found n (r .1) z)))
-          (λ z. rw (ne-eqb c 0 z) (sym (spans→net ch esc s found n (r .1) (r .0) z))) (equal? c 0)
+          (λ z. rw (ne-eqb c 0 z) (sym (spans→net ch esc s found n (r .1) z))) (equal? c 0)
 
   pub made-records : (ps : List Place) (tracks : List Track) → tracks ≡ map track (each512 (trackOf ps))
       → recordsBy s tracks ≡ records ch ps

@@ -1,15 +1,17 @@
 // The router of a channel handed over as rows.
 ghost use mathlib.Core.Path.{_≡_};
-ghost use Prim.Native.Nat.{_+_, _≤_, _<_};
+ghost use Prim.Native.Nat.{_≤_, _<_};
 ghost use lib.ListN.{length, take};
 ghost use Rattle.lists.specs.Lists.{overlay};
 ghost use Rattle.refusal.specs.Trays.{recordTray, ringTray, boardTray};
 ghost use Rattle.channel.specs.Channel.{rows};
 ghost use Rattle.channel.specs.Answers.{Escapes};
+ghost use Rattle.channel.specs.Parked.{NetsOnly};
 ghost use Rattle.router.specs.Route.{routeTraysWithRecords};
 ghost use Rattle.router.specs.Code.{RouteDone, RowsDone};
 ghost use Rattle.router.specs.CodeLaws.{HeldBy, Held, RefusedWith};
 ghost use Rattle.router.specs.Tables.{recordsBy, noRecords, Listed};
+ghost use Rattle.router.specs.NetsFilled.{FilledNets};
 use channel::RowsAnswer;
 use channel::Spans;
 use grid::Column;
@@ -17,6 +19,8 @@ use grid::NET_SLOTS;
 use grid::NETS;
 use grid::Net;
 use grid::Track;
+use grid::WIDEST;
+use leftedge::Filled;
 use leftedge::NetRecord;
 use leftedge::Outcome;
 use refusal::BOARD_TRAY;
@@ -99,7 +103,40 @@ fn refused(refusal: Refusal) -> Routing
     }
 }
 
-// Routes a channel that escapes refusals 3 to 6, with the buffers that it needs.
+// The columns of the nets, and their fill.
+struct NetsFilled {
+    spans: Spans,
+    filled: Filled,
+}
+
+// Fills the tracks of rows that show nets only.
+fn fill_rows(top: &[u32], bot: &[u32], ring: &mut [u32]) -> NetsFilled
+    requires { ⌜ NetsOnly (rows (now top) (now bot)) × (ringTray ≤ length (now ring)) ⌝ }
+    ensures { λ r.
+        ⌜ FilledNets (rows (now (top .entry)) (now (bot .entry))) (now (ring .entry)) (r .spans) (r .filled)
+        (now (ring .exit)) ⌝ }
+{
+    let spans = channel::find_spans(top, bot);
+    let filled = leftedge::fill_tracks(top, bot, spans, ring);
+    NetsFilled { spans, filled }
+}
+
+// Fills the tracks of a channel that escapes refusals 3 to 5, from its rows without the parked pins.
+fn fill_nets(top: &[u32], bot: &[u32], ring: &mut [u32]) -> NetsFilled
+    requires { ⌜ Escapes (rows (now top) (now bot)) × (ringTray ≤ length (now ring)) ⌝ }
+    ensures { λ r.
+        ⌜ FilledNets (rows (now (top .entry)) (now (bot .entry))) (now (ring .entry)) (r .spans) (r .filled)
+        (now (ring .exit)) ⌝ }
+{
+    let w = top.len();
+    let mut upper = [0u32; WIDEST];
+    let mut lower = [0u32; WIDEST];
+    channel::remove_parked(top, bot, &mut upper, &mut lower);
+    fill_rows(&upper[..w], &lower[..w], ring)
+}
+
+// Routes a channel that escapes refusals 3 to 5, with the buffers that it needs. A parked number has no columns, so
+// that it gets no record and no copper.
 fn route_checked(top: &[u32], bot: &[u32], ring: &mut [u32], board: &mut [u8]) -> Routing
     requires { ⌜ Escapes (rows (now top) (now bot))
         × (ringTray ≤ length (now ring))
@@ -108,8 +145,9 @@ fn route_checked(top: &[u32], bot: &[u32], ring: &mut [u32], board: &mut [u8]) -
         ⌜ Held (rows (now (top .entry)) (now (bot .entry))) (now (ring .entry)) (now (board .entry)) r
         (now (ring .exit)) (now (board .exit)) ⌝ }
 {
-    let spans = channel::find_spans(top, bot);
-    let filled = leftedge::fill_tracks(top, bot, spans, ring);
+    let nets = fill_nets(top, bot, ring);
+    let spans = nets.spans;
+    let filled = nets.filled;
     let outcome = filled.outcome;
     let tracks = filled.tracks;
     match outcome {
@@ -127,7 +165,7 @@ fn route_checked(top: &[u32], bot: &[u32], ring: &mut [u32], board: &mut [u8]) -
     }
 }
 
-// Routes rows of any lengths and numbers, with the records by value: refusals 1, of the buffers lent, and 3 to 7.
+// Routes rows of any lengths and numbers, with the records by value: refusals 1, of the buffers lent, 3 to 5 and 7.
 fn route_by_value(top: &[u32], bot: &[u32], ring: &mut [u32], board: &mut [u8]) -> Routing
     ensures { λ r.
         ⌜ Held (rows (now (top .entry)) (now (bot .entry))) (now (ring .entry)) (now (board .entry)) r
@@ -205,9 +243,9 @@ fn routing_of(routed: Routed, records: [NetRecord; RECORD_TRAY]) -> Routing
     }
 }
 
-// Routes rows of any lengths and numbers: refusals 1 and 3 to 7, in rising number. On success the front of `records`
-// is the net records, as many as the answer counts, and the front of `board` the board file; under 7 the front of
-// `ring` is the ring's pairs; everything else that is lent stays as it was.
+// Routes rows of any lengths and numbers: refusals 1, 3 to 5 and 7, in rising number. On success the front of
+// `records` is the net records, as many as the answer counts, and the front of `board` the board file; under 7 the
+// front of `ring` is the ring's pairs; everything else that is lent stays as it was.
 pub fn route(
     top: &[u32],
     bot: &[u32],

@@ -9,7 +9,7 @@ use lib.ListN.{length, take}
 use Rattle.lists.specs.Lists.{Lowest}
 use Rattle.refusal.specs.Trays.{Tray, ringTray, boardTray}
 use Rattle.grid.specs.Pieces.{Layout}
-use Rattle.channel.specs.Channel.{Channel, nets}
+use Rattle.channel.specs.Channel.{Channel, withoutParked, nets}
 use Rattle.channel.specs.Density.{density}
 use Rattle.channel.specs.Constraints.{chain, Tangled, Unconstrained}
 use Rattle.channel.specs.Answers.{Escapes, boundsAnswer, boundsTold}
@@ -18,7 +18,8 @@ use Rattle.boardfile.specs.Open.{fileLayout}
 use Rattle.judge.specs.Answers.{judgeRefusal, judgeAnswer, judgeTold}
 use Rattle.judge.specs.Promise.{ShortPin, OpenPin, FloatingPiece, Passable}
 use Rattle.blanks.specs.Stock.{blankAnswer, blankTold}
-use Rattle.promises.specs.Router.{NoLayout, Fewest}
+use Rattle.channel.specs.Parked.{ParkedBeside}
+use Rattle.promises.specs.Router.{NoLayout, Fewest, Bare}
 use Rattle.router.specs.Route.{routeTrays, routeAnswer, routeTold, boardAfter, ringAfter}
 use Rattle.router.specs.Contract.{ShowsRing, HoldsLayout}
 use Rattle.screen_api.specs.Numbers.{entryNumber, refusalIn, placeIn, tracksIn, piecesIn, Decoded}
@@ -38,7 +39,7 @@ pub record BoundsEntry (ch : Channel) (r : ℕ) : Type 0 where
   pub densityRead : refusalIn r ≡ 0 → placeIn r / 65536 ≡ density ch
   pub chainRead : refusalIn r ≡ 0 → placeIn r % 65536 ≡ chain ch
 
--- Demand 3, of the number r and of the ring and board that the caller then holds
+-- Demand 3, and Req 04 of 02, of the number r and of the ring and board that the caller then holds
 pub record RouteNumberPromise (ch : Channel) (r : ℕ) (ring board : List ℕ) : Type 0 where
   pub tangled-exactly : (refusalIn r ≡ 7) ↔ NoLayout ch
   pub ring-exactly : (refusalIn r ≡ 7) ↔ Tangled ch
@@ -47,6 +48,9 @@ pub record RouteNumberPromise (ch : Channel) (r : ℕ) (ring board : List ℕ) :
   pub laid-out : refusalIn r ≡ 0 → HoldsLayout ch (tracksIn r) (piecesIn r) (take (4 + 4 * piecesIn r) board)
   pub fewest : Unconstrained ch → refusalIn r ≡ 0 → (tracksIn r ≡ density ch) × Fewest ch (tracksIn r)
   pub floors : refusalIn r ≡ 0 → (density ch ≤ tracksIn r) × (chain ch ≤ tracksIn r) × (tracksIn r ≤ length (nets ch))
+  pub no-copper : refusalIn r ≡ 0 → Bare ch (fileLayout (take (4 + 4 * piecesIn r) board))
+  pub stays-tangled : (refusalIn r ≡ 7) ↔ Tangled (withoutParked ch)
+  pub uncounted : ParkedBeside ch → refusalIn r ≡ 0 → (tracksIn r ≡ density ch) × Fewest ch (tracksIn r)
 
 module _ (ch : Channel) (ring board : List ℕ) where
   abbrev trays : List Tray

@@ -7,7 +7,7 @@ use mathlib.Core.List.{List, [], _∷_}
 use mathlib.Core.Logic.{_↔_, Iff·trans}
 use mathlib.Core.Bool.{cond}
 use mathlib.Core.Option.{Option, none, some}
-use lib.ListN.{length}
+use lib.ListN.{length, take}
 use lib.Dec.{eqb}
 use Rattle.refusal.specs.TrayLaws.{refusal-numbered}
 use Rattle.refusal.specs.ToldLaws.{told-success}
@@ -45,7 +45,7 @@ use Rattle.router.specs.declared.Routing.{Routing}
 use Rattle.router.specs.declared.RouteAnswer.{RouteAnswer}
 use Rattle.router.specs.declared.RouteAnswer.the-variants as routing
 use Rattle.router.specs.Route.{routeTrays, routeTold}
-use Rattle.router.specs.Contract.{ShowsRing, RoutePromise}
+use Rattle.router.specs.Contract.{ShowsRing, RoutePromise, ParkedBare}
 use Rattle.router.specs.ContractLaws.{stuck-answer}
 use Rattle.router.specs.CodeLaws.{room}
 use Rattle.router.specs.Code.{RowsDone}
@@ -138,6 +138,9 @@ module _ {ch : Channel} {ring board ring′ board′ : List ℕ} {a : Routing}
       said : RoutePromise ch (a .answer) ring′ board′
       said = done .promise hr hb esc
 
+      parked : ParkedBare ch (a .answer) (take (a .count) (a .records)) board′
+      parked = done .parked hr hb esc
+
       back : refusalIn r ≡ 0 → a .answer ≡ routing.Routed (tracksIn r) (piecesIn r)
       back = routed-back e (λ t n q. routed-small (routeTrays (length ring) (length board)) ch (sym (done .answer) ∙ q))
 
@@ -169,6 +172,9 @@ module _ {ch : Channel} {ring board ring′ board′ : List ℕ} {a : Routing}
             laid-out = λ h. said .laid-out (tracksIn r) (piecesIn r) (back h);
             fewest = λ free h. said .fewest free (tracksIn r) (piecesIn r) (back h);
             floors = λ h. said .floors (tracksIn r) (piecesIn r) (back h);
+            no-copper = λ h. parked .no-copper (tracksIn r) (piecesIn r) (back h);
+            stays-tangled = number-exactly (decoded e) (parked .tangled-exactly);
+            uncounted = λ beside h. parked .fewest beside (tracksIn r) (piecesIn r) (back h);
           }
 
     pub route-entry : RouteEntry ch ring board r ring′ board′

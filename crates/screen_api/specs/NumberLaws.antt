@@ -13,7 +13,6 @@ use Rattle.refusal.specs.declared.Refusal.the-variants.{
   TooWide,
   Uneven,
   HighNet,
-  LonePin,
   Tangled,
   Torn,
   BadField,
@@ -30,7 +29,6 @@ refusal-small (Garbled p) = omega arith
 refusal-small (TooWide p) = omega arith
 refusal-small (Uneven p) = omega arith
 refusal-small (HighNet p) = omega arith
-refusal-small (LonePin p) = omega arith
 refusal-small (Tangled p) = omega arith
 refusal-small (Torn p) = omega arith
 refusal-small (BadField p) = omega arith

@@ -35,7 +35,7 @@ fn refused(refusal: Refusal) -> u64
     numbered_at(refusal::number_of(refusal), refusal::place_of(refusal))
 }
 
-// Reads a pin list into two rows of at least 512 numbers each: the width, or refusals 1 to 6.
+// Reads a pin list into two rows of at least 512 numbers each: the width, or refusals 1 to 5.
 #[no_mangle]
 pub extern "C" fn cabjirt_read(text: &[u8], top: &mut [u32], bot: &mut [u32]) -> u64
     ensures { λ r.
@@ -47,7 +47,7 @@ pub extern "C" fn cabjirt_read(text: &[u8], top: &mut [u32], bot: &mut [u32]) ->
     }
 }
 
-// The bounds of rows: density times 65,536 plus chain, or refusals 3 to 6.
+// The bounds of rows: density times 65,536 plus chain, or refusals 3 to 5.
 #[no_mangle]
 pub extern "C" fn cabjirt_bounds(top: &[u32], bot: &[u32]) -> u64
     ensures { λ r. ⌜ BoundsEntry (rows (now (top .entry)) (now (bot .entry))) r ⌝ }
@@ -58,8 +58,8 @@ pub extern "C" fn cabjirt_bounds(top: &[u32], bot: &[u32]) -> u64
     }
 }
 
-// Routes rows: pieces times 65,536 plus tracks, with the board file at the front of the board; or refusals 1 and 3 to
-// 7, under 7 with the ring's pairs at the front of the ring.
+// Routes rows: pieces times 65,536 plus tracks, with the board file at the front of the board; or refusals 1, 3 to 5
+// and 7, under 7 with the ring's pairs at the front of the ring.
 #[no_mangle]
 pub extern "C" fn cabjirt_route(top: &[u32], bot: &[u32], ring: &mut [u32], board: &mut [u8]) -> u64
     ensures { λ r.
@@ -74,7 +74,7 @@ pub extern "C" fn cabjirt_route(top: &[u32], bot: &[u32], ring: &mut [u32], boar
     }
 }
 
-// Judges a board file against rows: its tracks if it is good; or refusals 1, 3 to 6, 8 to 10, or faults 11 to 13.
+// Judges a board file against rows: its tracks if it is good; or refusals 1, 3 to 5, 8 to 10, or faults 11 to 13.
 #[no_mangle]
 pub extern "C" fn cabjirt_judge(top: &[u32], bot: &[u32], board: &[u8], scratch: &mut [u32]) -> u64
     ensures { λ r.

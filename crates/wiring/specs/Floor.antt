@@ -18,7 +18,7 @@ use Rattle.grid.specs.TouchLaws.{one-row, same-kind-meets}
 use Rattle.channel.specs.Channel.{Channel, width, lastColumn}
 use Rattle.channel.specs.Density.{density}
 use Rattle.channel.specs.Answers.{Escapes}
-use Rattle.channel.specs.Laws.{counted→pin, pin-in-first, pin-in-last}
+use Rattle.channel.specs.Laws.{net→pin, pin-in-first, pin-in-last}
 use Rattle.channel.specs.SpanLaws.{span-strict, spanning→}
 use Rattle.channel.specs.DensityLaws.{netsOver, Over, over→, over-distinct, density-reached}
 use Rattle.wiring.specs.Pins.{Pin, netOf, IsPin}
@@ -68,7 +68,7 @@ module _ (ch : Channel) (esc : Escapes ch) (l : Layout) (g : Good ch l) where
   unfolding rightOf
   over-trunk c n o =
       let net = spanning→ ch n (o .spans) in
-      let some-pin = counted→pin ch n (esc .even) (net .0 .counted) in
+      let some-pin = net→pin ch n (esc .even) (net .0 .isNet) in
       let x = pin-of (pin-in-first ch n (some-pin .0) (some-pin .1)) in
       let y = pin-of (pin-in-last ch n (some-pin .0) (some-pin .1)) in
       let isX : IsPin ch (x .place) = subst (λ (k : ℕ). 0 < k) (sym (x .net)) (net .0 .positive) in

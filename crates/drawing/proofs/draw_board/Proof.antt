@@ -9,7 +9,7 @@ use denote.Ref.{now}
 use lib.ListN.{length}
 use lib.Seq.{length-sets}
 use Rattle.lists.specs.Lists.{each}
-use Rattle.channel.specs.Channel.{Channel, rows, highestNet, holdsNet}
+use Rattle.channel.specs.Channel.{Channel, rows, highestNet, isNet}
 use Rattle.drawing.specs.Prefixes.{below}
 use Rattle.drawing.specs.Putting.{Put, put-length, put-same, next-put, next-passed}
 use Rattle.drawing.specs.Code.{drawnBy}
@@ -21,7 +21,7 @@ use Rattle.drawing.proofs.draw_board.Tie as tie
 abbrev Inv-loop : tie.InvT-loop
 Inv-loop top bot t board₀ tracks firsts lasts count₀ n₀ board count n =
     let ch : Channel = rows top bot in
-    (1 ≤ n) × (n ≤ highestNet + 1) × Put board₀ board 0 count (each (drawnNet ch tracks t) (below (holdsNet ch) n))
+    (1 ≤ n) × (n ≤ highestNet + 1) × Put board₀ board 0 count (each (drawnNet ch tracks t) (below (isNet ch) n))
 
 abbrev μ-loop : tie.MeasureT-loop
 μ-loop top bot t board₀ tracks firsts lasts count₀ n₀ board count n = highestNet + 1 - n
@@ -39,7 +39,7 @@ draw-net-requires c κs =
     let inv = l .loop .inv in
     let esc = pre .0 .tracked .escapes in
     let first = c .before .before .before .if1 .taken in
-    let net = spans→net _ esc _ (pre .1) _ (omega arith) (inv .0) first in (
+    let net = spans→net _ esc _ (pre .1) _ (omega arith) first in (
       pre .0 .tracked .few,
       spans→stands _ esc _ (pre .1) _ (omega arith) (inv .0) first,
       net-room _ _ _ (pre .0) _ (inv .2) (inv .0) (omega arith) net,
@@ -51,7 +51,7 @@ loop-again c =
     let pre = start l .pre in
     let inv = l .loop .inv in
     let esc = pre .0 .tracked .escapes in
-    let net = spans→net _ esc (start l .args .spans) (pre .1) (l .loop .n) (omega arith) (inv .0) in
+    let net = spans→net _ esc (start l .args .spans) (pre .1) (l .loop .n) (omega arith) in
     let none = spans→none _ esc (start l .args .spans) (pre .1) (l .loop .n) (omega arith) in (
       omega arith,
       omega arith,

@@ -13,7 +13,7 @@ use Rattle.drawing.specs.Prefixes.{below}
 use Rattle.drawing.specs.Putting.{Room, Put, put-length, put-then, put-same, room-first, room-rest, next-put}
 use Rattle.drawing.specs.Putting.{next-passed}
 use Rattle.drawing.specs.Code.{StandsIn}
-use Rattle.drawing.specs.CodeLaws.{stands-inside, span-begun, span-ended, column-room, span-is}
+use Rattle.drawing.specs.CodeLaws.{stands-inside, net-stands, span-begun, span-ended, column-room, span-is}
 use Rattle.drawing.proofs.draw_span.Statement.{statement}
 use Rattle.drawing.proofs.draw_span.Tie as tie
 
@@ -57,7 +57,7 @@ has-pin-requires c κs =
 told : (c : tie.After-has-pin Inv-loop μ-loop) →
     let a = c .before .before .before .before .before .before .before .before .before .before .before .args in
     c .has-pin .result ≡ hasPin (rows (now (a .top)) (now (a .bot))) (a .n .0) (c .before .before .before .loop .c)
-told c = c .has-pin .ensures
+told c = c .has-pin .ensures ∙ net-stands _ _ _ _ (c .before .before .before .loop .inv .1) _
 
 draw-column-requires : tie.Need-draw-column-requires Inv-loop μ-loop
 draw-column-requires c κs =

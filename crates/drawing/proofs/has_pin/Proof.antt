@@ -4,14 +4,14 @@ use mathlib.Core.Path.{sym}
 use denote.Ref.{now}
 use borrow.Author.Needs.{needs}
 use Rattle.channel.specs.Channel.{rows}
-use Rattle.drawing.specs.CodeLaws.{has-pin-array}
+use Rattle.drawing.specs.CodeLaws.{stands-array}
 use Rattle.drawing.proofs.has_pin.Statement.{statement}
 use Rattle.drawing.proofs.has_pin.Tie as tie
 
 returns : tie.Need-returns
 returns c =
     let a = c .before .before .before .before .before .args in
-    sym (has-pin-array (rows (now (a .top)) (now (a .bot))) (a .n .0) (a .c .0) (omega arith))
+    sym (stands-array (rows (now (a .top)) (now (a .bot))) (a .n .0) (a .c .0) (omega arith))
 
 pub has-pin-spec : {M : Type 1} → statement M
 has-pin-spec =

@@ -11,24 +11,23 @@ use Rattle.router.proofs.route_checked.Tie as tie
 abbrev channel : tie.Start → Channel
 channel c = rows (c .args .top .now) (c .args .bot .now)
 
-abbrev begun : tie.After-find-spans → tie.Start
-begun c = c .before .before .before .before .before
+abbrev begun : tie.After-fill-nets → tie.Start
+begun c = c .before .before .before .before .before .before
 
 draw-board-requires : tie.Need-draw-board-requires
 draw-board-requires c κs =
     let o = c .before .before in
-    let f = o .before .before .before .before .before in
-    let g = f .before .before in
-    let pre = begun g .pre in
-    let placed = placed→ (f .fill-tracks .ensures) (o .outcome2 .given .1) .0 in
-    (placed-drawable (channel (begun g)) (pre .0) (pre .2) placed, g .find-spans .ensures)
+    let f = o .before .before .before .before .before .before .before in
+    let pre = begun f .pre in
+    let placed = placed→ (f .fill-nets .ensures .filled) (o .outcome2 .given .1) .0 in
+    (placed-drawable (channel (begun f)) (pre .0) (pre .2) placed, f .fill-nets .ensures .spans)
 
 returns : tie.Need-returns
 returns c =
     let o = c .before .before in
-    let f = o .before .before .before .before .before in
-    let b = begun (f .before .before) in
-    let done = f .fill-tracks .ensures in
+    let f = o .before .before .before .before .before .before .before in
+    let b = begun f in
+    let done = f .fill-nets .ensures .filled in
     tangled-held (channel b) _ _ (b .pre .1) (b .pre .2) (b .pre .0) done (o .outcome .given .1) (c .refused .ensures)
 
 returns-2 : tie.Need-returns-2
@@ -36,15 +35,15 @@ returns-2 c =
     let m = c .before in
     let d = m .before .before .before in
     let o = d .before .before .before in
-    let f = o .before .before .before .before .before in
-    let g = f .before .before in
-    let b = begun g in
-    routed-held (channel b) _ _ (b .pre .1) (b .pre .2) (b .pre .0) (f .fill-tracks .ensures) (o .outcome2 .given .1)
-    (g .find-spans .ensures) refl (d .draw-board .ensures) (m .make-records .ensures)
+    let f = o .before .before .before .before .before .before .before in
+    let b = begun f in
+    let nets = f .fill-nets .ensures in
+    routed-held (channel b) _ _ (b .pre .1) (b .pre .2) (b .pre .0) (nets .filled) (o .outcome2 .given .1)
+    (nets .spans) refl (d .draw-board .ensures) (m .make-records .ensures)
 
 pub route-checked-spec : {M : Type 1} → statement M
 route-checked-spec =
     tie.close
-    (tie.spec (λ c κs. search needs) (λ c κs. search needs) (λ c. search needs) (λ c. search needs)
-    (λ c κs. search needs) (λ c. search needs) draw-board-requires (λ c κs. search needs) (λ c. search needs) returns
-    (λ c. search needs) (λ c. search needs) returns-2)
+    (tie.spec (λ c κs. search needs) (λ c. search needs) (λ c. search needs) (λ c κs. search needs) (λ c. search needs)
+    draw-board-requires (λ c κs. search needs) (λ c. search needs) returns (λ c. search needs) (λ c. search needs)
+    returns-2)

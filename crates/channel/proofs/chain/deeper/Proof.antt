@@ -31,15 +31,16 @@ module _ (c : tie.Then3 Inv-loop μ-loop) where
   at-loop = c .before .before .before .before .before .before
 
   upper-low : getD (at-loop .before .args .top .now) (at-loop .loop .i) 0 ≤ highestNet
-  upper-low = top-low (channel (at-loop .before)) (at-loop .loop .i) (at-loop .before .pre .0)
+  upper-low = top-low (channel (at-loop .before)) (at-loop .loop .i) (at-loop .before .pre .0 .escapes)
 
   lower-low : getD (at-loop .before .args .bot .now) (at-loop .loop .i) 0 ≤ highestNet
-  lower-low = bot-low (channel (at-loop .before)) (at-loop .loop .i) (at-loop .before .pre .0)
+  lower-low = bot-low (channel (at-loop .before)) (at-loop .loop .i) (at-loop .before .pre .0 .escapes)
 
   stands : Above (channel (at-loop .before)) (getD (at-loop .before .args .top .now) (at-loop .loop .i) 0)
       (getD (at-loop .before .args .bot .now) (at-loop .loop .i) 0) (at-loop .loop .i + 1)
   stands =
-      stands-above (channel (at-loop .before)) (at-loop .loop .i) (c .before .before .if1 .taken)
+      stands-above (channel (at-loop .before)) (at-loop .loop .i) (at-loop .before .pre .0)
+      (c .before .before .if1 .taken)
       (eqb-false _ _ (not-true _ (c .before .if2 .taken))) (eqb-false _ _ (not-true _ (c .if3 .taken)))
 
 loop-holds : tie.Need-loop-holds Inv-loop μ-loop

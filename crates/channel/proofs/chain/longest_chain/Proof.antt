@@ -38,7 +38,7 @@ module _ (c : tie.At-loop Inv-loop μ-loop) where
   counts-nets : counted ≡ length (nets (channel start))
   counts-nets =
       c .before .count-nets .ensures ∙ (ap (λ (l : List ℕ). filledTo l highestNet) (start .pre .1)
-      ∙ filled-nets (channel start) (start .pre .0))
+      ∙ filled-nets (channel start) (start .pre .0 .escapes))
 
   few-nets : counted ≤ highestNet
   few-nets = omega (arith, counts-nets, nets-few (channel start))
@@ -56,7 +56,7 @@ module _ (c : tie.After-deepest Inv-loop μ-loop) where
       let last = start left .pre .2 in
       let reached = left .loop .inv .1 in
       let found = c .deepest .ensures in
-      let meant = deepest-spanning ch (start left .pre .0) (left .loop .rounds) in
+      let meant = deepest-spanning ch (start left .pre .0 .escapes) (left .loop .rounds) in
       cc
 
 count-nets-requires : tie.Need-count-nets-requires Inv-loop μ-loop
@@ -82,7 +82,7 @@ loop-again c =
     let ch = channel (start l) in (
       omega arith,
       c .deeper .ensures ∙ (ap (λ (d : List ℕ). each512 (deeperOver ch d (width ch))) (l .loop .inv .1)
-          ∙ (deeper-depths ch (start l .pre .0) (l .loop .rounds)
+          ∙ (deeper-depths ch (start l .pre .0 .escapes) (l .loop .rounds)
           ∙ ap (λ (f : ℕ). depths f ch) (sym (add-one (l .loop .rounds))))),
     )
 

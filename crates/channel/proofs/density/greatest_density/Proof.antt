@@ -100,23 +100,23 @@ plain-columns-requires-2 c κs = tt
 loop-holds : tie.Need-loop-holds Inv-loop μ-loop
 loop-holds c =
     let pre = c .before .before .before .before .before .before .pre in
-    (omega arith, sym (none-carried _ (pre .0)), sym (density-none _))
+    (omega arith, sym (none-carried _ (pre .0 .escapes)), sym (density-none _))
 
 cast-here : tie.Need-cast-here Inv-loop μ-loop
-cast-here c = let n = start (c .before) .pre .0 .narrow in omega arith
+cast-here c = let n = start (c .before) .pre .0 .escapes .narrow in omega arith
 
 add-here : tie.Need-add-here Inv-loop μ-loop
-add-here c = let n = start (c .before) .pre .0 .narrow in omega arith
+add-here c = let n = start (c .before) .pre .0 .escapes .narrow in omega arith
 
 span-at-requires : tie.Need-span-at-requires Inv-loop μ-loop
 span-at-requires c κs =
     let l = c .before .before .before .before .before in
-    top-low (channel l) (l .loop .i) (start l .pre .0)
+    top-low (channel l) (l .loop .i) (start l .pre .0 .escapes)
 
 span-at-requires-2 : tie.Need-span-at-requires-2 Inv-loop μ-loop
 span-at-requires-2 c κs =
     let l = c .before .before .before .before .before .before .before .before in
-    bot-low (channel l) (l .loop .i) (start l .pre .0)
+    bot-low (channel l) (l .loop .i) (start l .pre .0 .escapes)
 
 nets-starting-requires : tie.Need-nets-starting-requires Inv-loop μ-loop
 nets-starting-requires c κs = tt
@@ -138,7 +138,7 @@ sub-carried c = omega (arith, left c)
 add-i : tie.Need-add-i Inv-loop μ-loop
 add-i c =
     let t = in-loop (c .before .before .before .before) in
-    omega (arith, t .loop-test .taken, start (t .before) .pre .0 .narrow)
+    omega (arith, t .loop-test .taken, start (t .before) .pre .0 .escapes .narrow)
 
 loop-again : tie.Need-loop-again Inv-loop μ-loop
 loop-again c =

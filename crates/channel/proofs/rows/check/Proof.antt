@@ -1,20 +1,15 @@
 -- `channel::rows::check` meets its contract. There is no loop: each test leads to the answer that the chain of refusals
--- gives at it, by the law of that answer, and what is known past the test is one of `Narrow`, `Even`, `Low`. The counts
--- are those of both rows, counted from nothing.
-use Prim.Native.Nat.{ℕ, _+_, _≤_}
+-- gives at it, by the law of that answer, and what is known past the test is one of `Narrow`, `Even`, `Low`.
+use Prim.Native.Nat.{ℕ, _+_}
 use native.Mathlib.Omega.{arith}
-use mathlib.Core.Path.{_≡_, sym, _∙_, ap, subst}
-use mathlib.Core.List.{List}
+use mathlib.Core.Path.{sym, _∙_, ap}
 use mathlib.Core.Logic.{inl, inr, ⊎-elim}
 use borrow.Author.Needs.{needs}
 use borrow.Author.Tests.{ltb-true, ltb-false}
-use lib.ListN.{length, getD}
+use lib.ListN.{length}
 use Rattle.channel.specs.Channel.{Channel, rows}
-use Rattle.channel.specs.Rows.{tally, firstLone}
-use Rattle.channel.specs.RowLaws.{zeros, zeros-within, counts-within, first-high-left, first-high-right}
-use Rattle.channel.specs.RowLaws.{first-high-most}
-use Rattle.channel.specs.AnswerLaws.{Narrow, Even, Low, answer-wide, answer-uneven, answer-high, answer-lone}
-use Rattle.channel.specs.AnswerLaws.{answer-accepted}
+use Rattle.channel.specs.RowLaws.{first-high-left, first-high-right, first-high-most}
+use Rattle.channel.specs.AnswerLaws.{Narrow, Even, Low, answer-wide, answer-uneven, answer-high, answer-accepted}
 use Rattle.channel.proofs.rows.check.Statement.{statement}
 use Rattle.channel.proofs.rows.check.Tie as tie
 
@@ -42,26 +37,13 @@ low c =
       bot-low = sym (c .before .first-high2 .ensures) ∙ c .if7 .left;
     }
 
--- what is counted after each row
-top-counted : (c : tie.After-count-pins) → c .count-pins .last .1 .0 ≡ tally (low-rows (c .before .before) .top) zeros
-unfolding zeros
-top-counted c = c .count-pins .ensures
-
-lone-counted : (c : tie.After-first-lone) → c .first-lone .result ≡ firstLone
-    (tally (low-rows (c .before .before .before .before .before .before) .bot)
-    (tally (low-rows (c .before .before .before .before .before .before) .top) zeros))
-lone-counted c =
-    let bot-counted = c .before .before in
-    c .first-lone .ensures ∙ ap firstLone (bot-counted .count-pins2 .ensures
-    ∙ ap (tally _) (top-counted (bot-counted .before .before)))
-
 returns : tie.Need-returns
 returns c =
     answer-wide (given (c .before)) (⊎-elim (λ w. inl (omega arith)) (λ w. inr (omega (arith, ltb-true)))
     (c .if1 .came))
 
-add-t17 : tie.Need-add-t17
-add-t17 c =
+add-t15 : tie.Need-add-t15
+add-t15 c =
     ⊎-elim (λ w. let e = w .1 in let l = w .0 .taken in omega arith)
     (λ w. let e = w .1 in let l = w .0 .left in omega arith) (c .before .if4 .came)
 
@@ -84,8 +66,8 @@ returns-4 c =
     answer-high ch (even (high .before)) _ (first-high-left (ch .top) (ch .bot)
     (λ z. c .if6 .taken (high .first-high .ensures ∙ z)) ∙ sym (high .first-high .ensures)) (c .if6 .taken)
 
-add-t21 : tie.Need-add-t21
-add-t21 c =
+add-t19 : tie.Need-add-t19
+add-t19 c =
     let high = c .before .first-high2 in
     omega (arith, high .ensures, first-high-most (even-rows (c .before .before .before .before) .bot))
 
@@ -99,33 +81,11 @@ returns-5 c =
     (sym (top-high .first-high .ensures) ∙ high .before .if6 .left) (λ z. some (high .first-high2 .ensures ∙ z))
     ∙ ap (λ (k : ℕ). length (ch .top) + k) (sym (high .first-high2 .ensures))) (λ z. some (omega arith))
 
-count-pins-requires : tie.Need-count-pins-requires
-unfolding zeros
-count-pins-requires c κs = let l = low (c .before) in (l .top-low, l .even .narrow .top-narrow, zeros-within)
-
-count-pins-requires-2 : tie.Need-count-pins-requires-2
-count-pins-requires-2 c κs =
-    let l = low (c .before .before .before) in (
-      l .bot-low,
-      l .even .narrow .bot-narrow,
-      λ n h.
-          subst (λ (k : List ℕ). getD k n 0 ≤ 512) (sym (top-counted (c .before)))
-          (let w = counts-within _ (l .top-low) n h in let t = l .even .narrow .top-narrow in omega arith),
-    )
-
 returns-6 : tie.Need-returns-6
-returns-6 c =
-    let past = c .before .before .before .before .before .before .before in
-    answer-lone (low-rows past) (low past) _ (lone-counted (c .before)) (c .if8 .taken)
-
-returns-7 : tie.Need-returns-7
-returns-7 c =
-    let past = c .before .before .before .before .before .before .before in
-    answer-accepted (low-rows past) (low past) _ (lone-counted (c .before)) (c .if8 .left)
+returns-6 c = answer-accepted (low-rows c) (low c)
 
 pub check-spec : {M : Type 1} → statement M
 check-spec =
     tie.close
-    (tie.spec (λ c. search needs) returns add-t17 returns-2 returns-3 (λ c κs. search needs) returns-4
-    (λ c κs. search needs) add-t21 returns-5 count-pins-requires count-pins-requires-2 (λ c κs. search needs) returns-6
-    returns-7)
+    (tie.spec (λ c. search needs) returns add-t15 returns-2 returns-3 (λ c κs. search needs) returns-4
+    (λ c κs. search needs) add-t19 returns-5 returns-6)

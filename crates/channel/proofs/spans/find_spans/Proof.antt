@@ -1,6 +1,6 @@
 -- `channel::spans::find_spans` meets its contract. The loop's invariant: after i columns the arrays hold the first and
--- the last pin column of every number among those. The columns left fall. At the end the first i columns are all of
--- them (`firsts-whole`, `lasts-whole`).
+-- the last column of every number among those. The columns left fall. At the end the first i columns are all of them,
+-- and number 0, which is no net's, is cleared (`firsts-whole`, `lasts-whole`).
 use Prim.Native.Nat.{ℕ, _+_, _-_, _≤_, _<_}
 use native.Mathlib.Omega.{arith}
 use mathlib.Core.Path.{_≡_, sym, _∙_, ap}
@@ -31,7 +31,7 @@ channel c = rows (c .before .before .before .args .top .now) (c .before .before 
 low : (c : tie.In-loop Inv-loop μ-loop) → (getD (channel (c .before) .top) (c .before .loop .i) 0 < 512)
     × (getD (channel (c .before) .bot) (c .before .loop .i) 0 < 512)
 low c =
-    let esc = c .before .before .before .before .pre in
+    let esc = c .before .before .before .before .pre .escapes in
     let i = c .before .loop .i in
     omega (arith, top-low (channel (c .before)) i esc, bot-low (channel (c .before)) i esc)
 
@@ -72,14 +72,17 @@ returns : tie.Need-returns Inv-loop μ-loop
 returns c =
     let l = c .before .before in
     let ch = channel (l .before) in
+    let only = l .before .before .before .before .pre in
     let all : l .before .loop .i ≡ width ch = omega arith in
     record {
       first =
           c .before .typed-columns .ensures
-          ∙ ap (map column) (l .before .loop .inv .1 ∙ ap (λ (k : ℕ). each512 (firstBy ch k)) all ∙ firsts-whole ch);
+          ∙ ap (map column) (ap (λ f. set f 0 0) (l .before .loop .inv .1
+          ∙ ap (λ (k : ℕ). each512 (firstBy ch k)) all) ∙ firsts-whole ch only);
       last =
           c .typed-columns2 .ensures
-          ∙ ap (map column) (l .before .loop .inv .2 ∙ ap (λ (k : ℕ). each512 (lastBy ch k)) all ∙ lasts-whole ch);
+          ∙ ap (map column) (ap (λ f. set f 0 0) (l .before .loop .inv .2
+          ∙ ap (λ (k : ℕ). each512 (lastBy ch k)) all) ∙ lasts-whole ch only);
     }
 
 pub find-spans-spec : {M : Type 1} → statement M
@@ -87,4 +90,4 @@ find-spans-spec =
     tie.close
     (tie.spec Inv-loop μ-loop loop-holds (λ c. omega arith) (λ c. omega arith) (λ c. omega arith) (λ c. omega arith)
     note-requires (λ c. omega arith) (λ c. omega arith) note-requires-2 (λ c. omega arith) (λ c. omega arith) loop-again
-    typed-columns-requires typed-columns-requires-2 returns)
+    (λ c. omega arith) (λ c. omega arith) typed-columns-requires typed-columns-requires-2 returns)

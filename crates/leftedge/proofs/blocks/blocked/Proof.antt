@@ -34,7 +34,7 @@ b c = getD (ch c .bot) (c .loop .i) 0
 low : (c : tie.At-loop Inv-loop μ-loop) → (a c < 512) × (b c < 512)
 low c =
     let i = c .loop .i in
-    omega (arith, top-low (ch c) i (c .before .pre), bot-low (ch c) i (c .before .pre))
+    omega (arith, top-low (ch c) i (c .before .pre .escapes), bot-low (ch c) i (c .before .pre .escapes))
 
 loop-holds : tie.Need-loop-holds Inv-loop μ-loop
 loop-holds c = (omega arith, marks-none _ _)
@@ -60,7 +60,7 @@ loop-again c =
     let held = t .loop .inv .1 in (
       omega arith,
       ⊎-elim (λ w. w .5 ∙ (ap (λ (l : List ℕ). set l (a t) 1) held
-          ∙ blocking-column _ _ _ (record {
+          ∙ blocking-column _ _ (t .before .pre) _ (record {
             upper = w .0 .taken;
             lower = eqb-false _ _ (not-true _ (w .1 .taken));
             different = eqb-false _ _ (not-true _ (w .2 .taken));

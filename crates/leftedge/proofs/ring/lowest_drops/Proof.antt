@@ -32,7 +32,7 @@ low c =
     let top = now (c .before .args .top) in
     let bot = now (c .before .args .bot) in
     let i = c .loop .i - 1 in
-    let h = c .before .pre .low (suc i) in
+    let h = c .before .pre .escapes .low (suc i) in
     let e₁ = at-suc top i in
     let e₂ = at-suc bot i in
     record { upper = omega arith; lower = omega arith }
@@ -66,8 +66,8 @@ loop-again c =
     let ch : Channel = rows (now (a .top)) (now (a .bot)) in (
       omega arith,
       ap (λ (l : List ℕ). set l (getD (now (a .top)) (i - 1) 0) (i - 1 + 1)) (at-loop .loop .inv .1)
-          ∙ drop-more ch (now (a .tracks)) i (i - 1) (omega arith) (at-loop .loop .inv .0) (low at-loop .upper)
-          (c .if1 .taken),
+          ∙ drop-more ch (now (a .tracks)) (at-loop .before .pre) i (i - 1) (omega arith) (at-loop .loop .inv .0)
+          (low at-loop .upper) (c .if1 .taken),
     )
 
 loop-again-2 : tie.Need-loop-again-2 Inv-loop μ-loop

@@ -8,7 +8,7 @@ use mathlib.Core.List.{List, map}
 use lib.ListN.{length, take}
 use Rattle.refusal.specs.Trays.{ringTray}
 use Rattle.channel.specs.Channel.{Channel, rows}
-use Rattle.channel.specs.Answers.{Escapes}
+use Rattle.channel.specs.Parked.{NetsOnly}
 use Rattle.channel.specs.Spans.{firsts, lasts}
 use Rattle.channel.specs.SpanLaws.{plain-typed}
 use Rattle.leftedge.specs.Marked.{blockedMarks, scanMarked, ScanDone}
@@ -44,21 +44,21 @@ last-known b =
     b .before .before .before .plain-columns2 .ensures
     ∙ (ap (map (λ c. c .0)) (start b .pre .1 .last) ∙ plain-typed (lasts (channel b)))
 
--- where a turn begins: the channel, that it escapes the refusals, and the fill so far
+-- where a turn begins: the channel, that its rows show nets only, and the fill so far
 abbrev At : Type 0
 At = tie.At-loop Inv-loop μ-loop
 
 abbrev ch : At → Channel
 ch t = channel (t .before .before)
 
-esc : (t : At) → Escapes (ch t)
-esc t = start (t .before .before) .pre .0
+only : (t : At) → NetsOnly (ch t)
+only t = start (t .before .before) .pre .0
 
 so-far : (t : At) → Underway (ch t) (t .loop .tracks) (t .loop .left) (t .loop .count) (t .loop .done)
 so-far t = t .loop .inv .0
 
 small : (t : At) → t .loop .done + t .loop .count ≤ 511
-small t = few (ch t) (esc t) _ _ _ _ (so-far t)
+small t = few (ch t) (only t) _ _ _ _ (so-far t)
 
 wide : (t : At) → ringTray ≤ length (t .loop .ring)
 wide t = rw (t .loop .inv .1) (start (t .before .before) .pre .2)
@@ -107,7 +107,7 @@ typed-tracks-requires : tie.Need-typed-tracks-requires Inv-loop μ-loop
 typed-tracks-requires c κs = tt
 
 blocked-requires : tie.Need-blocked-requires Inv-loop μ-loop
-blocked-requires c κs = esc (c .before .before)
+blocked-requires c κs = only (c .before .before)
 
 add-t33 : tie.Need-add-t33 Inv-loop μ-loop
 add-t33 c = omega (arith, small (c .before .before .before .before .before .before .before .before))
@@ -115,13 +115,13 @@ add-t33 c = omega (arith, small (c .before .before .before .before .before .befo
 scan-track-requires : tie.Need-scan-track-requires Inv-loop μ-loop
 scan-track-requires c κs =
     let t = c .before .before .before .before .before .before .before .before in
-    ((omega (arith, small t)), so-far t .long, nets-low (ch t) (esc t) _ _ _ _ (so-far t))
+    ((omega (arith, small t)), so-far t .long, nets-low (ch t) (only t) _ _ _ _ (so-far t))
 
 show-ring-requires : tie.Need-show-ring-requires Inv-loop μ-loop
 show-ring-requires c κs =
     let a = c .before .before .before .before in
     let t = turn a in (
-      walk-begins (ch t) (esc t) _ _ _ _ (so-far t) _ _ _ (scanned a) (some-left a)
+      walk-begins (ch t) (only t) _ _ _ _ (so-far t) _ _ _ (scanned a) (some-left a)
           (c .before .before .before .if2 .taken),
       wide t,
     )
@@ -134,13 +134,13 @@ loop-less c =
     let a = c .before in
     let t = turn a in
     let fewer = c .if2 .left in
-    omega (arith, no-more (ch t) (esc t) _ _ _ _ (so-far t) _ _ _ (scanned a) (some-left a), fewer)
+    omega (arith, no-more (ch t) (only t) _ _ _ _ (so-far t) _ _ _ (scanned a) (some-left a), fewer)
 
 loop-again : tie.Need-loop-again Inv-loop μ-loop
 loop-again c =
     let a = c .before in
     let t = turn a in
-    (track-filled (ch t) (esc t) _ _ _ _ (so-far t) _ _ _ (scanned a) (some-left a) (c .if2 .left), t .loop .inv .1)
+    (track-filled (ch t) (only t) _ _ _ _ (so-far t) _ _ _ (scanned a) (some-left a) (c .if2 .left), t .loop .inv .1)
 
 same-length : tie.Need-same-length Inv-loop μ-loop
 same-length c = ap length (c .before .before .loop .inv .1)
@@ -148,7 +148,7 @@ same-length c = ap length (c .before .before .loop .inv .1)
 returns : tie.Need-returns Inv-loop μ-loop
 returns c =
     let t = c .before .before in
-    placed-done (ch t) (esc t) _ _ _ _ (so-far t) _ _ _ (t .loop .inv .1) (c .before .if1 .taken) refl
+    placed-done (ch t) (only t) _ _ _ _ (so-far t) _ _ _ (t .loop .inv .1) (c .before .if1 .taken) refl
     (c .typed-tracks .ensures)
 
 same-length-2 : tie.Need-same-length-2 Inv-loop μ-loop
@@ -161,7 +161,7 @@ returns-2 c =
     let last = c .before .before .before .before .before .before in
     let a = last .before in
     let t = turn a in
-    let end = track-empty (ch t) (esc t) _ _ _ _ (so-far t) _ _ _ (scanned a) (some-left a) (last .if2 .taken) in
+    let end = track-empty (ch t) (only t) _ _ _ _ (so-far t) _ _ _ (scanned a) (some-left a) (last .if2 .taken) in
     stuck-done (ch t) _ end _ _ _ _ _ (t .loop .inv .1) (c .before .before .show-ring .ensures) refl refl
 
 pub fill-tracks-spec : {M : Type 1} → statement M

@@ -1,4 +1,4 @@
--- `channel::rows::count_pins` meets its contract. The loop's invariant: counting what is left of the row gives what
+-- `channel::parked::count_pins` meets its contract. The loop's invariant: counting what is left of the row gives what
 -- counting the whole row gives, and no count has grown by more than one a turn. What is left of the row falls; at its
 -- end nothing is left to count.
 use Prim.Native.Nat.{ℕ, _+_, _≤_, _<_, _-_}
@@ -9,8 +9,8 @@ use lib.ListN.{length, getD, drop}
 use Rattle.lists.specs.Tallies.{set-within}
 use Rattle.channel.specs.Rows.{tally}
 use Rattle.channel.specs.RowLaws.{none-high, tally-step, tally-done}
-use Rattle.channel.proofs.rows.count_pins.Statement.{statement}
-use Rattle.channel.proofs.rows.count_pins.Tie as tie
+use Rattle.channel.proofs.parked.count_pins.Statement.{statement}
+use Rattle.channel.proofs.parked.count_pins.Tie as tie
 
 abbrev Inv-loop : tie.InvT-loop
 Inv-loop row counts₀ i₀ counts i =

@@ -1,0 +1,56 @@
+// The parked pins of a channel removed, so that what follows works on rows that show nets only.
+ghost use mathlib.Core.Path.{_≡_};
+ghost use Prim.Native.Nat.{ℕ, _≤_, _<_};
+ghost use lib.ListN.{length, getD};
+ghost use Rattle.lists.specs.Lists.{overlay};
+ghost use Rattle.channel.specs.Channel.{rows, widest};
+ghost use Rattle.channel.specs.Answers.{Escapes};
+ghost use Rattle.channel.specs.Rows.{firstHigh, tally, netsOfRow};
+ghost use Rattle.channel.specs.Parked.{ParkedRemoved};
+use grid::NET_SLOTS;
+use grid::WIDEST;
+
+// Counts each number of a row one more time; the numbers are at most 511, and no count is near its limit.
+fn count_pins(row: &[u32], counts: &mut [u32; NET_SLOTS])
+    requires { ⌜ (firstHigh (now row) ≡ 0) × (length (now row) ≤ widest)
+        × ((n : ℕ) → n < 512 → getD (now counts) n 0 ≤ widest) ⌝ }
+    ensures { λ _. ⌜ now (counts .exit) ≡ tally (now (row .entry)) (now (counts .entry)) ⌝ }
+{
+    let mut i: usize = 0;
+    while i < row.len() {
+        let n = row[i] as usize;
+        counts[n] = counts[n] + 1;
+        i += 1;
+    }
+}
+
+// Puts a row at the front of `kept`, with 0 for each number that is counted just once.
+fn keep_nets(row: &[u32], counts: &[u32; NET_SLOTS], kept: &mut [u32; WIDEST])
+    requires { ⌜ (firstHigh (now row) ≡ 0) × (length (now row) ≤ widest) × (length (now kept) ≡ widest) ⌝ }
+    ensures { λ _.
+        ⌜ now (kept .exit)
+        ≡ overlay (netsOfRow (now (counts .entry)) (now (row .entry))) (now (kept .entry)) ⌝ }
+{
+    let mut i: usize = 0;
+    while i < row.len() {
+        let n = row[i];
+        kept[i] = if counts[n as usize] == 1 { 0 } else { n };
+        i += 1;
+    }
+}
+
+// Puts the rows of a channel that escapes refusals 3 to 5 at the front of `upper` and `lower`, without its parked pins.
+// Here alone parked numbers are told from nets.
+pub fn remove_parked(top: &[u32], bot: &[u32], upper: &mut [u32; WIDEST], lower: &mut [u32; WIDEST])
+    requires { ⌜ Escapes (rows (now top) (now bot)) × (length (now upper) ≡ widest)
+        × (length (now lower) ≡ widest) ⌝ }
+    ensures { λ _.
+        ⌜ ParkedRemoved (rows (now (top .entry)) (now (bot .entry))) (now (upper .entry)) (now (lower .entry))
+        (now (upper .exit)) (now (lower .exit)) ⌝ }
+{
+    let mut counts = [0u32; NET_SLOTS];
+    count_pins(top, &mut counts);
+    count_pins(bot, &mut counts);
+    keep_nets(top, &counts, upper);
+    keep_nets(bot, &counts, lower);
+}
