@@ -6,6 +6,7 @@
 #include <string.h>
 
 #include "inputs.h"
+#include "text.h"
 
 static unsigned long calls, accepted, differing;
 static struct lent lents[SIDES];
@@ -34,26 +35,62 @@ static void compare(const char *name, enum operation operation, const struct inp
            answers[PLAIN_C]);
 }
 
+static void compare_all(const char *name, const struct input *in, bool shorten)
+{
+    for (enum operation operation = 0; operation < OPERATIONS; operation++)
+        compare(name, operation, in, shorten);
+}
+
+/* The measured shapes on fewer columns, so that numbers are left for parked pins: with the board of the shape, which
+ * joins those pins to nets, and with the router's own. */
+static void compare_parked(enum shape shape, struct input *in)
+{
+    char name[40];
+    snprintf(name, sizeof name, "%s with parked pins", shape_names[shape]);
+    for (uint32_t count = 1; count <= 64; count *= 4) {
+        make_input(shape, 400, in);
+        seed(count);
+        park_pins(in, count);
+        compare_all(name, in, false);
+        write_text(in);
+        draw_file(in);
+        compare_all(name, in, false);
+    }
+}
+
+/* 511 parked pins, the most that there can be, and no other. */
+static void compare_only_parked(struct input *in)
+{
+    memset(in->top, 0, sizeof in->top);
+    memset(in->bot, 0, sizeof in->bot);
+    in->top_length = in->bot_length = ROW;
+    for (uint32_t net = 1; net < 512; net++)
+        (net % 2 ? in->top : in->bot)[net] = net;
+    write_text(in);
+    draw_file(in);
+    compare_all("parked pins alone", in, false);
+}
+
 bool agree(unsigned long rounds)
 {
     static struct input input;
     for (enum shape shape = 0; shape < SHAPES; shape++) {
         make_input(shape, 512, &input);
-        for (enum operation operation = 0; operation < OPERATIONS; operation++)
-            compare(shape_names[shape], operation, &input, false);
+        compare_all(shape_names[shape], &input, false);
     }
+    for (enum shape shape = 0; shape < SHAPES; shape++)
+        compare_parked(shape, &input);
+    compare_only_parked(&input);
     seed(2024);
     for (unsigned long i = 0; i < rounds; i++) {
         char name[40];
         snprintf(name, sizeof name, "random input %lu", i + 1);
         random_input(&input);
-        bool shorten = below(30) == 0;
-        for (enum operation operation = 0; operation < OPERATIONS; operation++)
-            compare(name, operation, &input, shorten);
+        compare_all(name, &input, below(30) == 0);
         garble(&input);
         compare(name, READ, &input, false);
     }
-    printf("%lu calls on the inputs below and %lu random ones, %lu of them accepted: %lu differ\n", calls, rounds,
-           accepted, differing);
+    printf("%lu calls on the inputs below, with and without parked pins, and %lu random ones, %lu of them accepted: "
+           "%lu differ\n", calls, rounds, accepted, differing);
     return differing == 0;
 }

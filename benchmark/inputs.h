@@ -27,6 +27,10 @@ uint32_t below(uint32_t n);
 
 void seed(uint64_t state);
 
+/* Gives so many places of the rows, drawn one by one, a number that no pin has yet, as far as numbers last; what stood
+ * there goes. */
+void park_pins(struct input *input, uint32_t count);
+
 /* A random channel with its text, sometimes one that is refused; its board is drawn if it can be routed, and then
  * damaged more often than not. */
 void random_input(struct input *input);

@@ -39,10 +39,15 @@ static inline uint64_t plain_refused(uint32_t number, size_t place)
     return (uint64_t)number << 32 | shown;
 }
 
-/* Two rows of one width that escape refusals 3 to 6. */
+/* Two rows of one width that escape refusals 3 to 5. */
 struct plain_rows {
     const uint32_t *top, *bot;
     size_t width;
+};
+
+/* Room for a copy of two rows. */
+struct plain_copy {
+    uint32_t top[PLAIN_COLUMNS], bot[PLAIN_COLUMNS];
 };
 
 /* The first and the last pin column of each net by its number; 0 where a number has no pin. */
@@ -58,8 +63,11 @@ struct plain_header {
     uint32_t width, tracks, count;
 };
 
-/* 0, or the first of refusals 3 to 6 that applies to two rows of any lengths and numbers. */
+/* 0, or the first of refusals 3 to 5 that applies to two rows of any lengths and numbers. */
 uint64_t plain_check(const uint32_t *top, size_t top_length, const uint32_t *bot, size_t bot_length);
+
+/* The rows with 0 in place of each parked pin, in the room of a copy: what bounds and the router work on. */
+struct plain_rows plain_leave_parked(const struct plain_rows *rows, struct plain_copy *copy);
 
 void plain_find_spans(const struct plain_rows *rows, struct plain_spans *spans);
 

@@ -58,7 +58,9 @@ uint64_t plain_bounds(const uint32_t *top, size_t top_length, const uint32_t *bo
     uint64_t refusal = plain_check(top, top_length, bot, bot_length);
     if (refusal != 0)
         return refusal;
-    struct plain_rows rows = {top, bot, top_length};
+    struct plain_rows whole = {top, bot, top_length};
+    struct plain_copy copy;
+    struct plain_rows rows = plain_leave_parked(&whole, &copy);
     struct plain_spans spans;
     plain_find_spans(&rows, &spans);
     return (uint64_t)greatest_density(&rows, &spans) << 16 | longest_chain(&rows, &spans);

@@ -62,7 +62,9 @@ uint64_t plain_route(const uint32_t *top, size_t top_length, const uint32_t *bot
     uint64_t refusal = plain_check(top, top_length, bot, bot_length);
     if (refusal != 0)
         return refusal;
-    struct plain_rows rows = {top, bot, top_length};
+    struct plain_rows whole = {top, bot, top_length};
+    struct plain_copy copy;
+    struct plain_rows rows = plain_leave_parked(&whole, &copy);
     struct plain_spans spans;
     uint32_t tracks[PLAIN_NETS];
     plain_find_spans(&rows, &spans);

@@ -1,4 +1,4 @@
-/* The check of two rows, refusals 3 to 6, and the spans of the nets in them. */
+/* The check of two rows, refusals 3 to 5, the rows without parked pins, and the spans of the nets in them. */
 #include <string.h>
 
 #include "plain.h"
@@ -12,21 +12,6 @@ static size_t first_high(const uint32_t *row, size_t length)
     return 0;
 }
 
-static void count_pins(const uint32_t *row, size_t length, uint32_t counts[PLAIN_NETS])
-{
-    for (size_t i = 0; i < length; i++)
-        counts[row[i]]++;
-}
-
-/* The lowest net that is counted just once, or 0. */
-static size_t first_lone(const uint32_t counts[PLAIN_NETS])
-{
-    for (size_t n = 1; n < PLAIN_NETS; n++)
-        if (counts[n] == 1)
-            return n;
-    return 0;
-}
-
 uint64_t plain_check(const uint32_t *top, size_t top_length, const uint32_t *bot, size_t bot_length)
 {
     if (top_length > PLAIN_COLUMNS || bot_length > PLAIN_COLUMNS)
@@ -37,13 +22,30 @@ uint64_t plain_check(const uint32_t *top, size_t top_length, const uint32_t *bot
     if (high != 0)
         return plain_refused(5, high);
     high = first_high(bot, bot_length);
-    if (high != 0)
-        return plain_refused(5, top_length + high);
+    return high != 0 ? plain_refused(5, top_length + high) : 0;
+}
+
+static void count_pins(const uint32_t *row, size_t width, uint32_t counts[PLAIN_NETS])
+{
+    for (size_t i = 0; i < width; i++)
+        counts[row[i]]++;
+}
+
+/* Copies a row; a net that is counted just once is parked, and its pin is left out. */
+static void copy_nets(const uint32_t *row, size_t width, const uint32_t counts[PLAIN_NETS], uint32_t *nets)
+{
+    for (size_t i = 0; i < width; i++)
+        nets[i] = counts[row[i]] == 1 ? 0 : row[i];
+}
+
+struct plain_rows plain_leave_parked(const struct plain_rows *rows, struct plain_copy *copy)
+{
     uint32_t counts[PLAIN_NETS] = {0};
-    count_pins(top, top_length, counts);
-    count_pins(bot, bot_length, counts);
-    size_t lone = first_lone(counts);
-    return lone != 0 ? plain_refused(6, lone) : 0;
+    count_pins(rows->top, rows->width, counts);
+    count_pins(rows->bot, rows->width, counts);
+    copy_nets(rows->top, rows->width, counts, copy->top);
+    copy_nets(rows->bot, rows->width, counts, copy->bot);
+    return (struct plain_rows){copy->top, copy->bot, rows->width};
 }
 
 /* Notes a pin of net n in column c, which is no earlier than the columns noted so far. */

@@ -19,23 +19,7 @@ uint32_t below(uint32_t n)
     return (uint32_t)((state >> 32) % n);
 }
 
-/* Takes away the pins of nets with one pin. */
-static void drop_lone(struct input *in)
-{
-    size_t counts[512] = {0};
-    for (size_t i = 0; i < in->top_length; i++) {
-        counts[in->top[i]]++;
-        counts[in->bot[i]]++;
-    }
-    for (size_t i = 0; i < in->top_length; i++) {
-        if (counts[in->top[i]] == 1)
-            in->top[i] = 0;
-        if (counts[in->bot[i]] == 1)
-            in->bot[i] = 0;
-    }
-}
-
-/* Rows of a random width; one in three has no two nets in a column. */
+/* Rows of a random width, many with parked pins; one in three has no two nets in a column. */
 static void random_rows(struct input *in)
 {
     uint32_t width = below(20) == 0 ? 1 + below(512) : 1 + below(14);
@@ -48,14 +32,26 @@ static void random_rows(struct input *in)
         in->top[i] = below(4) < full ? 1 + below(nets) : 0;
         in->bot[i] = unconstrained ? (below(2) ? in->top[i] : 0) : below(4) < full ? 1 + below(nets) : 0;
     }
-    drop_lone(in);
+}
+
+void park_pins(struct input *in, uint32_t count)
+{
+    bool used[512] = {false};
+    for (size_t i = 0; i < in->top_length; i++)
+        used[in->top[i]] = used[in->bot[i]] = true;
+    for (uint32_t net = 511; net > 0 && count > 0; net--)
+        if (!used[net]) {
+            uint32_t *row = below(2) ? in->top : in->bot;
+            row[below((uint32_t)in->top_length)] = net;
+            count--;
+        }
 }
 
 /* A slip in the rows that is refused. */
 static void spoil_rows(struct input *in)
 {
     uint32_t i = below((uint32_t)in->top_length);
-    switch (below(5)) {
+    switch (below(4)) {
     case 0:
         in->top[i] = 512 + below(9);
         break;
@@ -63,9 +59,6 @@ static void spoil_rows(struct input *in)
         in->bot[i] = 512 + below(9);
         break;
     case 2:
-        in->top[i] = 511;
-        break;
-    case 3:
         in->bot_length = below(ROW + 8);
         break;
     default:
@@ -108,32 +101,53 @@ static void replace_piece(struct input *in, uint32_t i)
     }
 }
 
+/* The header's count of pieces changes by so many, and the length of the file with it. */
+static void add_count(struct input *in, int by)
+{
+    uint32_t count = ((in->file[2] & 31u) << 8 | in->file[3]) + 2u * (uint32_t)by;
+    in->file[2] = (uint8_t)((in->file[2] & 0xE0u) | (count >> 8 & 31u));
+    in->file[3] = (uint8_t)count;
+    in->file_length = 4 * (pieces_of(in) + 1 + (size_t)by);
+}
+
 /* Takes the piece of index i out of the file. */
 static void remove_piece(struct input *in, uint32_t i)
 {
     uint8_t *at = in->file + 4 + 4 * i;
     memmove(at, at + 4, in->file_length - 8 - 4 * i);
-    in->file_length -= 4;
-    uint32_t count = ((in->file[2] & 31u) << 8 | in->file[3]) - 2;
-    in->file[2] = (uint8_t)((in->file[2] & 0xE0u) | count >> 8);
-    in->file[3] = (uint8_t)count;
+    add_count(in, -1);
 }
 
-/* One of many slips in a board file: a bit, a cut, a piece changed, repeated, replaced or missing. */
+/* Puts one more branch into the file, from an edge of some column: it floats, makes a short, lies on copper of its net,
+ * or lies on a parked pin alone and is good. */
+static void add_branch(struct input *in)
+{
+    uint32_t width = (uint32_t)in->top_length, tracks = (in->file[1] & 63u) << 3 | in->file[2] >> 5;
+    if (width == 0)
+        return;
+    uint32_t i = (uint32_t)pieces_of(in), row = below(tracks + 1), column = 1 + below(width);
+    bool upper = below(2) == 0;
+    put_piece(in, i, 1, column, upper ? row : 0, upper ? tracks + 1 : row + 1);
+    add_count(in, 1);
+}
+
+/* One of many slips in a board file: a bit, a cut, a piece added, changed, repeated, replaced or missing. */
 static void damage_file(struct input *in)
 {
-    uint32_t pieces = (uint32_t)pieces_of(in), slip = below(20);
+    uint32_t pieces = (uint32_t)pieces_of(in), slip = below(26);
     if (slip == 0) {
         in->file_length = below((uint32_t)in->file_length + 1);
     } else if (slip <= 2) {
         in->file[below((uint32_t)in->file_length)] ^= (uint8_t)(1u << below(8));
+    } else if (slip <= 8) {
+        add_branch(in);
     } else if (pieces == 0) {
         return;
-    } else if (slip <= 4) {
+    } else if (slip <= 10) {
         memmove(in->file + 4 + 4 * below(pieces), in->file + 4 + 4 * below(pieces), 4);
-    } else if (slip <= 8) {
-        remove_piece(in, below(pieces));
     } else if (slip <= 14) {
+        remove_piece(in, below(pieces));
+    } else if (slip <= 20) {
         nudge_piece(in, below(pieces));
     } else {
         replace_piece(in, below(pieces));
@@ -143,11 +157,13 @@ static void damage_file(struct input *in)
 void random_input(struct input *in)
 {
     random_rows(in);
+    if (below(3) == 0)
+        park_pins(in, 1 + below((uint32_t)in->top_length));
     if (below(8) == 0)
         spoil_rows(in);
     write_text(in);
     draw_file(in);
-    for (uint32_t slips = below(3); slips > 0 && in->file_length >= 8; slips--)
+    for (uint32_t slips = below(3); slips > 0 && in->file_length >= 4; slips--)
         damage_file(in);
 }
 

@@ -1,4 +1,6 @@
-"""Runs the measuring programs and prints their numbers as text: `python3 benchmark/report.py FOLDER COMPILER [--quick]`.
+"""Runs the measuring programs and prints their numbers as text:
+
+    python3 benchmark/report.py FOLDER COMPILER [--quick]
 
 The folder has one program four times, with its code in other places; a time is the mean of their medians, so that
 where the linker happens to put a loop counts for less. The exit status is 0 if both sides agree, whatever the times

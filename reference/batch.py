@@ -29,6 +29,10 @@ class Case:
         """The number of the answer due: 0 or that of a refusal or fault."""
         return int(self.due.split(" ", 1)[0])
 
+    def place(self):
+        """The value of the answer due, or the place."""
+        return int(self.due.split(" ", 2)[1])
+
     def kind(self):
         return self.question[0]
 
@@ -115,11 +119,12 @@ def need(path):
         sys.exit(2)
 
 
-def build(entries=LIBRARY, program=PROGRAM):
-    """Compiles batch.c with the entries."""
+def build(entries=LIBRARY, program=PROGRAM, source="batch.c", flags=()):
+    """Compiles batch.c, or a source that has it within, with the entries."""
     need(entries)
-    source, header = ROOT / "reference" / "batch.c", ROOT / "screen"
-    command = ["cc", "-std=c11", "-O2", "-Wall", "-Wextra", "-Werror", "-I", header, source, entries, "-o", program]
+    source, header = ROOT / "reference" / source, ROOT / "screen"
+    strict = "-std=c11", "-O2", "-Wall", "-Wextra", "-Werror"
+    command = ["cc", *strict, *flags, "-I", header, source, entries, "-o", program]
     try:
         subprocess.run(list(map(str, command)), check=True)
     except (OSError, subprocess.CalledProcessError) as failure:

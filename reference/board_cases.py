@@ -99,7 +99,8 @@ def blanks(cases):
 
 
 def drawn(cases):
-    """Boards and piece numbers drawn from a fixed row of numbers: pieces within their ranges, and some a little out of them."""
+    """Boards and piece numbers drawn from a fixed row of numbers: pieces within their ranges, and some a little out of
+    them."""
     state = 2026
 
     def below(n):

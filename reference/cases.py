@@ -1,9 +1,8 @@
 """Makes what the cases program reads and what it must write: `python3 reference/cases.py crates/cases`.
 
-A case is a byte for the kind of question, two bytes for a length, most significant first, and so many bytes. The answers come from the program in
-channel.py, which shares nothing with the proved code.
+A case is a byte for the kind of question, two bytes for a length, most significant first, and so many bytes. The
+answers come from the program in channel.py, which shares nothing with the proved code.
 """
-import random
 import sys
 from pathlib import Path
 
@@ -77,7 +76,8 @@ class Cases:
         self.add(BOUNDS, rows_data(top, bot), self.told("BOUNDS", lambda: channel.bounds(top, bot)))
 
     def fill(self, top, bot):
-        """The track of each net by rising number, or the ring; the rest of the ring buffer, which holds 7777, must still hold it."""
+        """The track of each net that is not parked, by rising number, or the ring; the rest of the ring buffer, which
+        holds 7777, must still hold it."""
         try:
             channel.check(top, bot)
             tracks, track_of = channel.fill(top, bot)

@@ -1,7 +1,10 @@
-"""The adapter board channel, written from the scope paper alone, by other means than the proved code where that is natural.
+"""The adapter board channel, written from the owner's papers alone, by other means than the proved code where that is
+natural.
 
-Nets are kept in dictionaries and sets, the form of a text is a regular expression, the chain is a memoised search, and the judge floods
-grid points layer by layer. Every function answers the paper's numbers: a refusal is `Refused(number, place)`, raised or returned.
+Rows stay as they were handed over; each number in them is asked whether it is a net or parked. Nets are kept in
+dictionaries and sets, the form of a text is a regular expression, the chain is a memoised search, and the judge floods
+grid points layer by layer. Every function answers the paper's numbers: a refusal is `Refused(number, place)`, raised or
+returned.
 """
 import re
 
@@ -18,15 +21,15 @@ class Refused(Exception):
         self.number, self.place, self.ring = number, place, tuple(ring)
 
 
-# --- pin lists ---------------------------------------------------------------------------------------------------------------
+# --- pin lists ------------------------------------------------------------------------------------------------------
 
 FORM = re.compile(rb"TOP((?: (?:0|[1-9][0-9]*))+)\nBOT((?: (?:0|[1-9][0-9]*))+)\n")
 
 
 def starts_a_form(text):
     """Whether some text of the form begins with these bytes: a completion is tried for each kind of end."""
-    completions = (b"", b"0", b" 0", b" 0\nBOT 0\n", b"0\nBOT 0\n", b"\nBOT 0\n", b"BOT 0\n", b"OT 0\n", b"T 0\n", b"OP 0\nBOT 0\n",
-                   b"P 0\nBOT 0\n", b"TOP 0\nBOT 0\n", b" 0\n", b"0\n", b"\n")
+    completions = (b"", b"0", b" 0", b" 0\nBOT 0\n", b"0\nBOT 0\n", b"\nBOT 0\n", b"BOT 0\n", b"OT 0\n", b"T 0\n",
+                   b"OP 0\nBOT 0\n", b"P 0\nBOT 0\n", b"TOP 0\nBOT 0\n", b" 0\n", b"0\n", b"\n")
     return any(FORM.fullmatch(text + c) for c in completions)
 
 
@@ -47,7 +50,7 @@ def parse(text):
 
 
 def check(top, bot):
-    """Refusals 3 to 6 of rows handed over as numbers."""
+    """Refusals 3 to 5 of rows handed over as numbers."""
     if max(len(top), len(bot)) > WIDEST:
         raise Refused(3, WIDEST + 1)
     if len(top) != len(bot) or not top:
@@ -55,21 +58,18 @@ def check(top, bot):
     for position, net in enumerate(top + bot, 1):
         if net > HIGHEST_NET:
             raise Refused(5, position)
-    pins = top + bot
-    lone = [n for n in range(1, HIGHEST_NET + 1) if pins.count(n) == 1]
-    if lone:
-        raise Refused(6, lone[0])
 
 
-# --- spans and constraints ---------------------------------------------------------------------------------------------------
+# --- spans and constraints ------------------------------------------------------------------------------------------
 
 def columns_of(top, bot):
-    """For each net its pin columns, rising."""
-    columns = {}
+    """For each net its pin columns, rising; a net with just one pin is parked and left out."""
+    pins = {}
     for c, pair in enumerate(zip(top, bot), 1):
-        for net in set(pair) - {0}:
-            columns.setdefault(net, []).append(c)
-    return columns
+        for net in pair:
+            if net:
+                pins.setdefault(net, []).append(c)
+    return {net: sorted(set(columns)) for net, columns in pins.items() if len(columns) > 1}
 
 
 def spans_of(top, bot):
@@ -77,8 +77,17 @@ def spans_of(top, bot):
 
 
 def steps_of(top, bot):
-    """(upper net, lower net, column) for each column with two different nets."""
-    return [(a, b, c) for c, (a, b) in enumerate(zip(top, bot), 1) if a and b and a != b]
+    """(upper net, lower net, column) for each column with two different nets, parked ones not counted."""
+    nets = columns_of(top, bot)
+    return [(a, b, c) for c, (a, b) in enumerate(zip(top, bot), 1) if a in nets and b in nets and a != b]
+
+
+def below_of(steps):
+    """For each net that is above some the nets directly below it."""
+    below = {}
+    for a, b, _ in steps:
+        below.setdefault(a, set()).add(b)
+    return below
 
 
 def bounds(top, bot):
@@ -86,9 +95,7 @@ def bounds(top, bot):
     check(top, bot)
     spans = spans_of(top, bot)
     density = max((sum(a <= c <= b for a, b in spans.values()) for c in range(1, len(top) + 1)), default=0)
-    below = {}
-    for a, b, _ in steps_of(top, bot):
-        below.setdefault(a, set()).add(b)
+    below = below_of(steps_of(top, bot))
     # nets are removed from the bottom up: what is left over lies on or above a ring
     longest, rest = {}, set(spans)
     while True:
@@ -101,18 +108,19 @@ def bounds(top, bot):
     return density, 0 if rest else max(longest.values(), default=0)
 
 
-# --- filling and drawing -----------------------------------------------------------------------------------------------------
+# --- filling and drawing --------------------------------------------------------------------------------------------
 
 def fill(top, bot):
     """The number of tracks and the track of each net; or refusal 7 with its ring."""
     spans, steps = spans_of(top, bot), steps_of(top, bot)
+    below = below_of(steps)
     unplaced = sorted(spans, key=lambda n: (spans[n][0], n))
     track_of, track = {}, 0
     while unplaced:
         track += 1
         end, passed = 0, []
         for n in unplaced:
-            if spans[n][0] > end and all(b in track_of for a, b, _ in steps if a == n):
+            if spans[n][0] > end and all(lower in track_of for lower in below.get(n, ())):
                 track_of[n], end = track, spans[n][1]
             else:
                 passed.append(n)
@@ -151,7 +159,7 @@ def draw(top, bot):
 
 
 def route(top, bot, ring=RING, board=BOARD, records=RECORDS):
-    """Refusals 1 and 3 to 7, or tracks, records and pieces."""
+    """Refusals 1, 3 to 5 and 7, or tracks, records and pieces."""
     for lent, needed in ((records, RECORDS), (ring, RING), (board, BOARD)):
         if lent < needed:
             raise Refused(1, needed)
@@ -159,7 +167,7 @@ def route(top, bot, ring=RING, board=BOARD, records=RECORDS):
     return draw(top, bot)
 
 
-# --- board files -------------------------------------------------------------------------------------------------------------
+# --- board files ----------------------------------------------------------------------------------------------------
 
 def bits(fields):
     """Fields of (value, width), most significant first, as bytes."""
@@ -216,7 +224,7 @@ def read_piece(file, number):
     return pieces[number - 1]
 
 
-# --- the judge ---------------------------------------------------------------------------------------------------------------
+# --- the judge ------------------------------------------------------------------------------------------------------
 
 def points_of(piece):
     """The points of a piece, each with its layer: trunks on layer 0, branches on 1, contacts on both."""
@@ -229,7 +237,7 @@ def points_of(piece):
 
 
 def flood(pieces):
-    """A colour for each piece, the same for joined pieces: copper of one layer that covers a point is one conductor there."""
+    """A colour for each piece, the same for joined pieces: copper of one layer over a point is one conductor there."""
     over = {}
     for i, piece in enumerate(pieces):
         for point in points_of(piece):
@@ -249,7 +257,7 @@ def flood(pieces):
 
 
 def coloured_pins(top, bot, tracks, pieces, colour):
-    """Position, net and colour of each pin: that of the branches over its point, which have one colour, or one of its own."""
+    """Position, net and colour of each pin: the one colour of the branches over its point, or a colour of its own."""
     branches = {}
     for i, piece in enumerate(pieces):
         if piece[0] == 1:
@@ -264,7 +272,7 @@ def coloured_pins(top, bot, tracks, pieces, colour):
 
 
 def judge(top, bot, file, scratch=SCRATCH):
-    """The tracks of a good board; or refusals 1, 3 to 6, 8 to 10 and faults 11 to 13."""
+    """The tracks of a good board; or refusals 1, 3 to 5, 8 to 10 and faults 11 to 13. Parked pins count as any do."""
     if scratch < SCRATCH:
         raise Refused(1, SCRATCH)
     check(top, bot)
@@ -286,7 +294,7 @@ def judge(top, bot, file, scratch=SCRATCH):
     return tracks
 
 
-# --- blanks and programs -----------------------------------------------------------------------------------------------------
+# --- blanks and programs --------------------------------------------------------------------------------------------
 
 def blank(tracks):
     for held in STOCK:

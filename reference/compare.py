@@ -23,10 +23,10 @@ import self_test
 
 DEFAULT_SEED = "2026"
 PROGRAMS = ("listing", "board_writer", "board_judge")
-# The programs lend enough memory and have a blank for every channel, so 1 and 14 never show. None is an output other
-# than a refusal.
-PROGRAM_NUMBERS = {None, 0, *range(2, 14)}
-ENTRY_NUMBERS = set(range(15))
+# No answer has number 6. The programs lend enough memory and have a blank for every channel, so 1 and 14 never show.
+# None is an output other than a refusal.
+PROGRAM_NUMBERS = {None, 0, *range(2, 6), *range(7, 14)}
+ENTRY_NUMBERS = {*range(6), *range(7, 15)}
 
 
 def first_difference(cases, answers):
@@ -77,9 +77,12 @@ def entries(seed):
     each = Counter(batch.NAMES[case.kind()] for case in cases)
     kinds = ", ".join(f"{name} {each[name]}" for name in batch.NAMES)
     features = sum((found for _, found in parts), Counter())
-    good = ", ".join(f"{features[name]} with {name}" for name in entry_cases.FEATURES)
-    return difference or lacking(numbers, ENTRY_NUMBERS) or lacking(features, entry_cases.FEATURES), (
-        f"{len(cases)} cases in one process ({kinds}); answers {counted(numbers)}; good boards {good}")
+    good = ", ".join(f"{features[name]} with {name}" for name in entry_cases.GOOD)
+    parked = ", ".join(f"{name} {features[name]}" for name in entry_cases.PARKED)
+    missing = lacking(numbers, ENTRY_NUMBERS) or lacking(features, entry_cases.GOOD + entry_cases.PARKED)
+    return difference or missing, (
+        f"{len(cases)} cases in one process ({kinds}); answers {counted(numbers)}; good boards {good}; parked pins in"
+        f" {parked}")
 
 
 def run(name, part, *arguments):

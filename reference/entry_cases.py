@@ -10,11 +10,14 @@ import random_boards
 import random_channels
 import random_texts
 import row_cases
+import small_channels
 import text_cases
 
-FEATURES = ("several trunks a net", "a tangled channel", "copper at an edge place without a pin")
-SMALL_CHANNELS = [([a, b], [c, d]) for a in range(3) for b in range(3) for c in range(3) for d in range(3)
-                  if all((a, b, c, d).count(net) != 1 for net in (1, 2))]
+# What some good board, and some channel or board with parked pins, must show.
+GOOD = ("several trunks a net", "a tangled channel", "copper at an edge place without a pin",
+        "copper on a parked pin", "a parked pin without copper")
+PARKED = ("a routed channel", "a channel of nothing else", "a refused ring", "a short")
+SMALL_CHANNELS = [tuple(map(list, rows)) for rows in small_channels.shapes(2)]
 
 
 def lent(rng, needed):
@@ -49,6 +52,9 @@ def damages(rng, rows, tracks, pieces, times):
     width = len(rows[0])
     file = channel.encode(width, tracks, pieces)
     yield batch.judge(*rows, file, rng.randrange(256), lent(rng, channel.SCRATCH))
+    if small_channels.parked_in(*rows):
+        stubs = random_boards.stubbed(rng, rows, tracks, pieces)
+        yield batch.judge(*rows, channel.encode(width, tracks, stubs), rng.randrange(256))
     for _ in range(times):
         slip = random_boards.damaged_pieces(rng, tracks, pieces, width)
         yield batch.judge(*rows, channel.encode(width, tracks, slip), rng.randrange(256))
@@ -69,7 +75,9 @@ def maze_job(rng):
     """Good layouts with split trunks, a good part of them of tangled channels."""
     for _ in range(100):
         rows = random_channels.narrow(rng, 6) if rng.random() < 0.4 else random_channels.tangled(rng, 3)
-        rows = random_boards.spaced(rng, *random_channels.renumbered(rng, *rows), 0.5)
+        rows = random_boards.spaced(rng, *rows, 0.5)
+        rows = row_cases.reserved(rng, *rows, rng.choice((0, 0.05, 0.2)), any_place=False)
+        rows = random_channels.renumbered(rng, *rows)
         tracks = rng.randint(0, 3) + len(set(rows[0] + rows[1]))
         yield from damages(rng, *random_boards.mazed(rng, *rows, tracks), 3)
 
@@ -96,7 +104,8 @@ def wide_job(rng):
 
 
 def small_board_job(_):
-    """Every layout that has each piece at most once on 2 columns and 1 track, with every channel of 2 columns."""
+    """Every layout that has each piece at most once on 2 columns and 1 track, with every channel of 2 columns but for
+    the names of its nets."""
     pieces = piece_sets.every_piece(2, 1)
     for subset in range(1 << len(pieces)):
         file = channel.encode(2, 1, [p for i, p in enumerate(pieces) if subset >> i & 1])
@@ -105,8 +114,8 @@ def small_board_job(_):
 
 
 def fixed_job(_):
-    """Blanks, texts about the programs' limit, the channels of the gate, the tallest board, a split trunk made by hand,
-    and each buffer too short where other refusals would follow."""
+    """Blanks, texts about the programs' limit, the channels of the gate, the tallest boards, boards with parked pins, a
+    split trunk made by hand, and each buffer too short where other refusals would follow."""
     for tracks in [*range(0, 600), 2**16, 2**31, 2**32 - 1]:
         yield batch.blank(tracks)
     for text in list(random_texts.long_texts())[::2]:
@@ -114,9 +123,11 @@ def fixed_job(_):
     for rows in row_cases.channels():
         yield batch.route(*rows)
         yield batch.bounds(*rows)
-    tall = row_cases.chained(511)  # 511 tracks, the most that there can be
-    tracks, _, pieces = channel.draw(*tall)
-    yield batch.judge(*tall, channel.encode(512, tracks, pieces))
+    for rows in (row_cases.chained(511), row_cases.crowded()):  # the most tracks, and the most beside two parked pins
+        tracks, _, pieces = channel.draw(*rows)
+        yield batch.judge(*rows, channel.encode(512, tracks, pieces))
+    for top, bot, tracks, pieces in row_cases.PARKED_BOARDS:
+        yield batch.judge(top, bot, channel.encode(len(top), tracks, pieces))
     for pieces in (random_boards.SPLIT, random_boards.SPLIT * 2, random_boards.SPLIT[1:]):
         yield batch.judge(*random_boards.SPLIT_ROWS, channel.encode(3, 3, pieces))
     for fill in (2, 3):
@@ -139,24 +150,51 @@ def jobs(seed):
 
 
 def made(job):
-    """The cases of a job, and how many of its good boards have nets with several trunks or tangled channels."""
+    """The cases of a job, and how many of them show each feature."""
     seed, name, part = job
     cases = list(globals()[name](random.Random(f"{seed} {name} {part}")))
-    good = [case for case in cases if case.kind() == batch.JUDGE and case.number() == 0]
-    return cases, Counter(feature for case in good for feature in features(case))
+    return cases, Counter(feature for case in cases for feature in features(case))
 
 
 def features(case):
-    """What a good board shows that the router would not draw."""
+    if case.kind() == batch.JUDGE and case.number() == 0:
+        yield from good_features(case)
+    if case.kind() in (batch.ROUTE, batch.JUDGE) and case.number() in (0, 7, 11):
+        yield from parked_features(case)
+
+
+def good_features(case):
+    """What a good board shows."""
     rows, file = case.inputs()
     _, tracks, pieces = channel.open_board(file)
     groups = random_boards.groups_of(pieces)
-    several, tangled, unpinned = FEATURES
+    several, tangled, unpinned, stub, bare = GOOD
     if any(sum(p[0] == random_boards.TRUNK for p in group) > 1 for group in groups):
         yield several
     try:
         channel.fill(*rows)
     except channel.Refused:
         yield tangled
-    if any(rows[row][column - 1] == 0 for group in groups for row, column in random_boards.edges_of(group, tracks)):
+    reached = {rows[row][column - 1] for group in groups for row, column in random_boards.edges_of(group, tracks)}
+    parked = small_channels.parked_in(*rows)
+    if 0 in reached:
         yield unpinned
+    if parked & reached:
+        yield stub
+    if parked - reached:
+        yield bare
+
+
+def parked_features(case):
+    """What an answer shows of parked pins."""
+    (top, bot), _ = case.inputs()
+    parked = small_channels.parked_in(top, bot)
+    routed, nothing_else, ring, short = PARKED
+    if not parked:
+        return
+    if case.kind() == batch.ROUTE:
+        yield routed if case.number() == 0 else ring
+        if parked == set(top + bot) - {0}:
+            yield nothing_else
+    elif case.number() == 11 and (top + bot)[case.place() - 1] in parked:
+        yield short

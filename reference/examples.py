@@ -1,4 +1,5 @@
-"""Runs the three programs and `./channel make` on the bench examples A to M of the scope paper and compares what they write with the paper, to the letter.
+"""Runs the three programs and `./channel make` on the bench examples A to M of the owner's papers and compares what
+they write with the papers, to the letter.
 
 Usage: python3 reference/examples.py target/bin
 """
@@ -10,17 +11,20 @@ from pathlib import Path
 import channel
 
 A = b"TOP 0 1 2 3\nBOT 1 2 0 3\n"
+L = b"TOP 1 0\nBOT 0 0\n"
 LISTED = {
     "A": (A, b"BOARD 4 2 8\nBOUND 2 2\nNET 1 1 2 2\nNET 2 2 3 1\nNET 3 4 4 0\nEND 11\n"),
     "B": (b"TOP 0 1 6 1 2 3 5\nBOT 6 3 5 4 0 2 4\n",
-          b"BOARD 7 5 8\nBOUND 4 3\nNET 1 2 4 5\nNET 2 5 6 3\nNET 3 2 6 4\nNET 4 4 7 1\nNET 5 3 7 2\nNET 6 1 3 3\nEND 30\n"),
+          b"BOARD 7 5 8\nBOUND 4 3\nNET 1 2 4 5\nNET 2 5 6 3\nNET 3 2 6 4\nNET 4 4 7 1\nNET 5 3 7 2\nNET 6 1 3 3\n"
+          b"END 30\n"),
     "C": (b"TOP 1 2\nBOT 2 1\n", b"REFUSED 7 2\nRING 1 1\nRING 2 2\n"),
     "D": (b"TOP 1 2 3 1\nBOT 2 3 2 0\n", b"REFUSED 7 2\nRING 2 2\nRING 3 3\n"),
-    "E": (b"TOP 1 0 1 2 0 2\nBOT 0 3 0 0 3 0\n", b"BOARD 6 2 8\nBOUND 2 1\nNET 1 1 3 1\nNET 2 4 6 1\nNET 3 2 5 2\nEND 15\n"),
+    "E": (b"TOP 1 0 1 2 0 2\nBOT 0 3 0 0 3 0\n",
+          b"BOARD 6 2 8\nBOUND 2 1\nNET 1 1 3 1\nNET 2 4 6 1\nNET 3 2 5 2\nEND 15\n"),
     "F": (b"TOP 0\nBOT 0\n", b"BOARD 1 0 8\nBOUND 0 0\nEND 0\n"),
     "G": (b"TOP 5\nBOT 5\n", b"BOARD 1 0 8\nBOUND 0 0\nNET 5 1 1 0\nEND 1\n"),
     "K": (b"TOP 01", b"REFUSED 2 5\n"),
-    "L": (b"TOP 1 0\nBOT 0 0\n", b"REFUSED 6 1\n"),
+    "L": (L, b"BOARD 2 0 8\nBOUND 0 0\nEND 0\n"),
     "M, net 511": (b"TOP 511\nBOT 511\n", b"BOARD 1 0 8\nBOUND 0 0\nNET 511 1 1 0\nEND 1\n"),
     "M, net 512": (b"TOP 512\nBOT 512\n", b"REFUSED 5 1\n"),
     "M, 512 columns": (b"TOP" + b" 0" * 512 + b"\nBOT" + b" 0" * 512 + b"\n", b"BOARD 512 0 8\nBOUND 0 0\nEND 0\n"),
@@ -72,10 +76,14 @@ def main(bins):
     file = run(bins / "board_writer", A)
     expect("file of A", file[:8], bytes.fromhex("0100401600200402"))
     width, tracks, pieces = channel.open_board(file)
-    faults = {"H": (pieces[:7] + pieces[8:], b"REFUSED 12 6\n"), "I": (pieces[:3] + [(1, 2, 1, 3)] + pieces[4:], b"REFUSED 11 3\n"),
+    faults = {"H": (pieces[:7] + pieces[8:], b"REFUSED 12 6\n"),
+              "I": (pieces[:3] + [(1, 2, 1, 3)] + pieces[4:], b"REFUSED 11 3\n"),
               "J": (pieces + [(0, 2, 3, 4)], b"REFUSED 13 12\n")}
     for name, (changed, due) in faults.items():
         expect(f"judge {name}", judged(bins / "board_judge", A, channel.encode(width, tracks, changed)), due)
+    expect("file of L", run(bins / "board_writer", L), bytes.fromhex("00800000"))
+    stub = channel.encode(2, 1, [(1, 1, 1, 2)])
+    expect("copper on L's parked pin", judged(bins / "board_judge", L, stub), b"GOOD 1\n")
     expect("no files", judged(bins / "board_judge", None, None), b"REFUSED 2 0\n")
     expect("no board", judged(bins / "board_judge", A, None), b"REFUSED 8 4\n")
     expect("pins before board", judged(bins / "board_judge", b"TOP 01", b"x"), b"REFUSED 2 5\n")

@@ -3,62 +3,39 @@
 Usage: python3 reference/exhaustive.py [SEED]
 
 The router is asked for every channel of up to 3 columns with nets 1 to 3, for every channel of 4 columns but for the
-names of its nets, and for some of 5. It has to refuse as tangled just those of which layout_search.py finds no layout.
+names of its nets, and for some of 5; parked pins are among them all. It has to refuse as tangled just those of which
+layout_search.py finds no layout, and to answer a channel as the same without its parked pins.
 """
-import itertools
 import random
 import re
 import sys
+from collections import Counter
 from multiprocessing import Pool
 
 sys.dont_write_bytecode = True  # the modules below leave nothing beside them
 
 import batch
 import channel
+import parked_checks
 import random_boards
 import random_channels
 from layout_search import TRUNK, Search, fewest
 from piece_sets import every_piece, good_channels, nets_of, rows_of, shortest_pieces
+from small_channels import named_channels, parked_in, shape_of, shapes, without_parked
 
 SEARCH_GRIDS = ((1, 0), (1, 1), (1, 2), (1, 3), (2, 0), (2, 1), (2, 2), (3, 0), (3, 1))  # columns, tracks
-FLOOR_GRIDS = ((1, 0), (2, 0), (3, 0), (4, 0), (4, 1), (5, 0), (5, 1))
+# Columns, tracks and the fewest pins of a net. On 5 columns no net is parked, since all sets with parked pins take too
+# long: their copper is joined to no other pin, so the set without it is a layout of the channel without them.
+FLOOR_GRIDS = ((1, 0, 1), (2, 0, 1), (3, 0, 1), (4, 0, 1), (4, 1, 1), (5, 0, 2), (5, 1, 2))
+PART = 400  # channels that a process takes at a time
 ROUTED = re.compile(r"(\d+) (\d+) ring((?: \d+)*) kept board((?: [0-9a-f]+)?) kept inputs kept")
 
 
 # --- channels -------------------------------------------------------------------------------------------------------
 
-def no_lone_pin(pins):
-    return all(pins.count(net) > 1 for net in pins if net)
-
-
-def named_channels(width, nets):
-    """Every channel of a width with these net numbers, 1 up."""
-    for pins in itertools.product(range(nets + 1), repeat=2 * width):
-        if no_lone_pin(pins):
-            yield list(pins[:width]), list(pins[width:])
-
-
-def shapes(width):
-    """Every channel of a width, but for the names of its nets: a new net takes the next number."""
-    def extend(pins, nets):
-        if len(pins) < 2 * width:
-            for net in range(nets + 2):
-                yield from extend(pins + (net,), max(nets, net))
-        elif no_lone_pin(pins):
-            yield pins[:width], pins[width:]
-    return extend((), 0)
-
-
-def shape_of(top, bot):
-    name = {0: 0}
-    for net in [*top, *bot]:
-        name.setdefault(net, len(name))
-    return tuple(name[n] for n in top), tuple(name[n] for n in bot)
-
-
 def free(top, bot):
-    """Whether no column holds pins of two different nets."""
-    return not channel.steps_of(top, bot)
+    """Whether no column holds pins of two different nets, parked pins not counted."""
+    return all(0 in pair or pair[0] == pair[1] for pair in zip(*without_parked(top, bot)))
 
 
 def asked(seed):
@@ -69,7 +46,7 @@ def asked(seed):
     for _ in range(6000):
         top, bot = random_channels.narrow(rng, 5) if rng.random() < 0.7 else random_channels.tangled(rng, 5)
         if len(top) == 5:
-            rows.append(random_channels.renumbered(rng, top, bot))
+            rows.append(random_channels.renumbered(rng, *random_channels.parking(rng, top, bot)))
     return rows
 
 
@@ -85,17 +62,21 @@ def search_differences():
 
 
 def floor_differences():
-    """Where no column holds pins of two nets, no layout, split trunks included, has fewer tracks than the density."""
-    for width, tracks in FLOOR_GRIDS:
-        good = good_channels(width, tracks, shortest_pieces(width, tracks), False)
+    """Where no column holds pins of two nets, parked pins not counted, no layout, split trunks included, has fewer
+    tracks than the density."""
+    for width, tracks, pins in FLOOR_GRIDS:
+        good = good_channels(width, tracks, shortest_pieces(width, tracks), False, pins)
         for top, bot in (rows_of(nets, width) for nets in good):
             if free(top, bot) and channel.bounds(top, bot)[0] > tracks:
                 yield f"a layout of {tracks} tracks is below the density", (top, bot)
 
 
 def aside(name):
-    """The differences of one of these two, for a process of its own."""
-    return list({"search": search_differences, "floor": floor_differences}[name]())
+    """The differences of one of these, for a process of its own."""
+    return list(ASIDE[name]())
+
+
+ASIDE = {"records": parked_checks.record_differences, "floor": floor_differences, "search": search_differences}
 
 
 # --- the router -----------------------------------------------------------------------------------------------------
@@ -132,21 +113,19 @@ def board_fault(rows, file, least):
     groups = random_boards.groups_of(channel.open_board(file)[2])
     if any(sum(piece[0] == TRUNK for piece in group) > 1 for group in groups):
         return "a net has two trunks"
-    if not least <= tracks <= len(set(rows[0] + rows[1]) - {0}):
+    if not least <= tracks <= len(set(rows[0] + rows[1]) - {0} - parked_in(*rows)):
         return f"the board has {tracks} tracks, and {least} are the fewest"
-    density = channel.bounds(*rows)[0]
-    if free(*rows) and not tracks == least == density:
-        return f"the board has {tracks} tracks, the fewest are {least} and the density is {density}"
-    return None
+    if free(*rows) and not tracks == least == channel.bounds(*rows)[0]:
+        return f"the board has {tracks} tracks, the fewest are {least}; the density is {channel.bounds(*rows)[0]}"
+    return parked_checks.copper_fault(rows, tracks, groups)
 
 
-def router_differences(channels, found):
+def router_differences(channels, found, program=batch.PROGRAM):
     """The router against what the search found of each shape; the layouts found go to both judges."""
-    lent = channel.RING, channel.BOARD
-    questions = [batch.Case(batch.ROUTE, "", 1, lent, *rows).question for rows in channels]
+    questions = [parked_checks.question(rows) for rows in channels]
     judged = [batch.judge(list(top), list(bot), channel.encode(len(top), *layout))
               for (top, bot), layout in found.items() if layout]
-    lines = batch.answers(questions + [case.question for case in judged])
+    lines = batch.answers(questions + [case.question for case in judged], program)
     for rows, line in zip(channels, lines):
         fault = router_fault(rows, line, found[shape_of(*rows)])
         if fault:
@@ -162,26 +141,43 @@ def told(difference):
     return "\n".join([fault, batch.joined("TOP", *top), batch.joined("BOT", *bot)])
 
 
+def shapes_of(rows):
+    """The shape of a channel without its parked pins, and its own."""
+    return shape_of(*without_parked(*rows)), shape_of(*rows)
+
+
+def checked(channels):
+    """The differences of some channels, and how many are tangled, have no column with two nets, or have parked pins;
+    for a process of its own."""
+    found = {shape: fewest(shape) for shape in {shape for rows in channels for shape in shapes_of(rows)}}
+    differences = [*router_differences(channels, found), *parked_checks.search_differences(channels, found),
+                   *parked_checks.router_differences(channels)]
+    return differences, Counter(tangled=sum(found[shape_of(*rows)] is None for rows in channels),
+                                free=sum(free(*rows) for rows in channels),
+                                parked=len(parked_checks.with_parked(channels)))
+
+
 def compare(seed):
     """The first difference, or None; and what was compared, in words."""
-    channels = asked(seed)
-    different = sorted({shape_of(*rows) for rows in channels})
+    channels = sorted(asked(seed), key=shapes_of)  # the search is run once a shape, but where a part ends
+    parts = [channels[start:start + PART] for start in range(0, len(channels), PART)]
     with Pool(batch.WORKERS) as pool:
-        others = [pool.apply_async(aside, (name,)) for name in ("search", "floor")]
-        found = dict(zip(different, pool.map(fewest, different, chunksize=100)))
-        differences = [d for other in others for d in other.get()]
-    differences += router_differences(channels, found)
-    tangled, loose = sum(found[shape_of(*rows)] is None for rows in channels), sum(free(*rows) for rows in channels)
+        others = [pool.apply_async(aside, (name,)) for name in ASIDE]
+        results = pool.map(checked, parts, chunksize=1)
+        differences = [d for other in others for d in other.get()] + [d for found, _ in results for d in found]
+    counts = sum((count for _, count in results), Counter())
+    different = len({shape_of(*rows) for rows in channels})
     return told(differences[0]) if differences else None, (
-        f"{len(channels)} channels, {len(different)} but for the names of nets; {tangled} have no layout with one trunk"
-        f" a net and are refused, the others are routed well; {loose} have no column with two nets and as many tracks"
-        " as the density")
+        f"{len(channels)} channels, {different} but for the names of nets; {counts['tangled']} have no layout with one"
+        f" trunk a net and are refused, the others are routed well; {counts['free']} have no column with two nets and"
+        f" as many tracks as the density; {counts['parked']} have parked pins and are answered as without them")
 
 
 def main(arguments):
     if len(arguments) > 1:
         print("usage: exhaustive.py [SEED]", file=sys.stderr)
         return 2
+    batch.need(parked_checks.LISTING)
     batch.build()
     difference, counts = compare(arguments[0] if arguments else "2026")
     print(difference or f"exhaustive: {counts}")

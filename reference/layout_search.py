@@ -1,18 +1,19 @@
 """Searches a small channel for a good layout with at most one trunk a net. The search knows pieces, touching and
 joining; it knows nothing of constraints, rings or a fill.
 
-Which layouts are searched. Take any good layout with at most one trunk a net, of a channel in which no net has just
-one pin. Each step below gives another such layout of the same channel, so if there is one at all, there is one among
-those searched.
+Which layouts are searched. Take any good layout with at most one trunk a net. Each step below gives another such layout
+of the same channel, so if there is one at all, there is one among those searched.
 
-1. Every piece belongs to one net, since it is joined to some pin, and to pins of one net only.
+1. Every piece belongs to one net, since it is joined to some pin, and to pins of one net only. The pieces of a parked
+   net, one with just one pin, can go: no other piece and no other pin is joined to them, and its pin is joined to
+   itself without them. The other pieces cover no parked pin, which would be joined to another net's.
 2. Branches that share a point touch. One branch over all their points touches just what they touched, so each such
    heap can be one branch: the branches of a column are disjoint.
 3. A contact where no trunk or no branch lies links only pieces that share its point and touch anyway; it can go, and
    so can all but one of the contacts on a point. The others lie where the trunk and a branch of one net cross.
 4. A branch that covers no pin can go. It touches contacts alone, and these lie on its net's one trunk; that has one
    point in the branch's column, so there is one such contact. Nothing is joined through what hangs on one contact.
-5. The trunk of a net whose pins all stand in one column can go. It has one point in that column, so copper of other
+5. The trunk of a net whose two pins stand in one column can go. It has one point in that column, so copper of other
    columns is joined to the pins through this point only. Pins joined to the trunk have branches over this point,
    which are one branch by 2; so one branch covers both pins, and they need no trunk.
 6. A net with pins in several columns has its trunk, since only trunks lead to another column, and all its pins are
@@ -20,12 +21,13 @@ those searched.
    and the trunk covers the column. A contact is there, and may be, both being of one net.
 7. A track without a trunk can go. Trim each branch to its pins and their goal, which is the trunk's track, or the
    other edge for a net of one column. Then no piece ends on that track; with the rows above it moved down by one,
-   each piece is still a piece and touches what it touched. So as many tracks as nets are enough.
+   each piece is still a piece and touches what it touched. So as many tracks as trunks are enough.
 
 What is searched is then: for each net with pins in several columns every trunk (its track and columns), no two trunks
-touching; and for each column every set of disjoint branches. A pin asks for a branch that covers it and its goal, and
-no branch may cover pins of two nets. Whoever uses a layout found here has it judged; that none is missed is tried
-again on the smallest grids in piece_sets.py.
+touching; and for each column every set of disjoint branches. A pin asks for a branch that covers it and its goal; a
+parked pin is at its goal and asks for none. No branch may cover pins of two nets, and a parked pin is one of them.
+Whoever uses a layout found here has it judged; that none is missed is tried again on the smallest grids in
+piece_sets.py.
 """
 import functools
 
@@ -47,12 +49,14 @@ def branch_sets(low, high):
 
 @functools.lru_cache(None)
 def column_branches(tracks, top, bot, top_goal, bot_goal):
-    """Branches of a column that serve its pins, or None. A goal is a row, or None if there is none in this column."""
+    """Branches of a column that serve its pins, or None. A goal is a row, the pin's own if it needs no branch, or None
+    if there is none in this column."""
     pins = [(row, goal) for row, net, goal in ((tracks + 1, top, top_goal), (0, bot, bot_goal)) if net]
     for branches in branch_sets(0, tracks + 1):
         over = [[(a, b) for a, b in branches if a <= row <= b] for row, _ in pins]
-        served = all(bs and goal is not None and bs[0][0] <= goal <= bs[0][1] for bs, (_, goal) in zip(over, pins))
-        if served and not (top and bot and top != bot and over[0] == over[1]):
+        served = all(goal == row or bs and goal is not None and bs[0][0] <= goal <= bs[0][1]
+                     for bs, (row, goal) in zip(over, pins))
+        if served and not (top and bot and top != bot and over[0] and over[0] == over[1]):
             return sorted({branch for bs in over for branch in bs})
     return None
 
@@ -66,14 +70,19 @@ class Search:
 
     def __init__(self, top, bot, tracks):
         self.top, self.bot, self.tracks = top, bot, tracks
-        self.columns = channel.columns_of(top, bot)
-        self.spanning = [net for net, columns in sorted(self.columns.items()) if len(columns) > 1]
+        self.columns = {}  # of each pin of a net
+        for column, pair in enumerate(zip(top, bot), 1):
+            for net in filter(None, pair):
+                self.columns.setdefault(net, []).append(column)
+        self.spanning = [net for net, columns in sorted(self.columns.items()) if len(set(columns)) > 1]
         self.points = {trunk: frozenset(channel.points_of(trunk)) for trunk in every_trunk(len(top), tracks)}
         # a trunk that can't serve its net even if no other net had pins can't do so beside them
         self.choices = {net: [t for t in self.points if self.serves(net, {net: t})] for net in self.spanning}
 
     def goal(self, net, column, row, trunks):
-        """The row that the branch of a pin in this row must reach, or None."""
+        """The row that a pin in this row must reach, or None."""
+        if len(self.columns[net]) == 1:
+            return row
         if net not in self.spanning:
             return self.tracks + 1 - row
         _, track, a, b = trunks[net]
@@ -87,7 +96,7 @@ class Search:
         return column_branches(self.tracks, *nets, *goals)
 
     def serves(self, net, trunks):
-        return all(self.branches(column, trunks) is not None for column in self.columns[net])
+        return all(self.branches(column, trunks) is not None for column in set(self.columns[net]))
 
     def trunks(self, chosen):
         """Trunks for all nets, beginning with those chosen, that their columns can be served with; or None."""
@@ -120,7 +129,8 @@ class Search:
 def fewest(rows):
     """The fewest tracks of a good layout with at most one trunk a net, and its pieces; or None."""
     top, bot = map(list, rows)
-    for tracks in range(len(set(top + bot) - {0}) + 1):
+    most = len(Search(top, bot, 0).spanning)
+    for tracks in range(most + 1):
         pieces = Search(top, bot, tracks).layout()
         if pieces is not None:
             return tracks, pieces

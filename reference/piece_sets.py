@@ -31,13 +31,13 @@ def masks_of(width, tracks, pieces):
 
 def reached(width, tracks, pieces):
     """Of every set of the pieces: the edge places that each joined part reaches, and whether no part has two trunks.
-    A part with fewer than two edge places floats or leaves a pin alone, so its set is left out."""
+    A part that reaches none floats, so its set is left out."""
     masks, edges, found = masks_of(width, tracks, pieces), (1 << 2 * width) - 1, set()
 
     def extend(number, parts):
         if number == len(masks):
             places = [mask & edges for mask, _ in parts]
-            if all(p & (p - 1) for p in places):
+            if all(places):
                 found.add((frozenset(places), all(trunks < 2 for _, trunks in parts)))
             return
         extend(number + 1, parts)
@@ -54,19 +54,22 @@ def reached(width, tracks, pieces):
     return found
 
 
-def some_pins(places):
-    """Every choice of two edge places or more."""
+def choices(places, fewest):
+    """Every choice of so many edge places or more, as the list of their bits."""
     bits = [1 << i for i in range(places.bit_length()) if places >> i & 1]
-    return [sum(chosen) for size in range(2, len(bits) + 1) for chosen in itertools.combinations(bits, size)]
+    return [chosen for size in range(fewest, len(bits) + 1) for chosen in itertools.combinations(bits, size)]
 
 
-def good_channels(width, tracks, pieces, one_trunk):
-    """The channels of which some set of the pieces is a good layout: each part of the set has the pins of one net. A
-    channel is shown as the set of its nets, each the bits of its pin positions."""
-    good = set()
+def good_channels(width, tracks, pieces, one_trunk, fewest=1):
+    """The channels, all their nets of so many pins or more, of which some set of the pieces is a good layout: each part
+    of the set has the pins of one net, and a pin at another edge place is parked. A channel is shown as the set of its
+    nets, each the bits of its pin positions."""
+    good, edges = set(), (1 << 2 * width) - 1
     for parts, single in reached(width, tracks, pieces):
         if single or not one_trunk:
-            good.update(map(frozenset, itertools.product(*map(some_pins, parts))))
+            alone = choices(edges & ~sum(parts), 0) if fewest == 1 else [()]
+            for nets in itertools.product(*([sum(pins) for pins in choices(part, fewest)] for part in parts)):
+                good.update(frozenset(nets + parked) for parked in alone)
     return good
 
 

@@ -67,20 +67,25 @@ def text_job(rng):
 
 
 def bench_job(_):
-    """The paper's examples, faults H to J of A among them."""
+    """The papers' examples, faults H to J of A among them, and boards with parked pins."""
     yield from both(text for text, _ in examples.LISTED.values())
     width, tracks, pieces = channel.open_board(channel.board(examples.A))
     for changed in (pieces, pieces[:7] + pieces[8:], pieces[:3] + [(1, 2, 1, 3)] + pieces[4:], pieces + [(0, 2, 3, 4)]):
         yield Case("board_judge", examples.A, channel.encode(width, tracks, changed))
+    yield Case("board_judge", examples.L, channel.board(examples.L))
     yield Case("board_judge", examples.A, channel.encode(width, tracks, pieces + [(3, 1, 1, 2)]))
     yield Case("board_judge", examples.A, channel.encode(width + 1, tracks, pieces))
+    yield from both(text_cases.text(*rows) for rows in row_cases.PARKED)
+    for top, bot, tracks, pieces in row_cases.PARKED_BOARDS:
+        yield Case("board_judge", text_cases.text(top, bot), channel.encode(len(top), tracks, pieces))
 
 
 def wide_job(rng):
     for _ in range(15):
         yield from both([text_cases.text(*random_channels.wide(rng))])
     most = row_cases.chained(511), row_cases.ring(255, 100), ([0] * 512, [0] * 512), ([0] * 513, [0] * 513)
-    yield from both(text_cases.text(*rows) for rows in most)
+    parked = row_cases.crowded(), ([*range(1, 512), 0], [0] * 512)
+    yield from both(text_cases.text(*rows) for rows in most + parked)
 
 
 def long_job(_):
@@ -100,6 +105,8 @@ def board_job(rng):
         slip = random_boards.damaged_pieces(rng, tracks, pieces, width)
         yield Case("board_judge", text, file)
         yield Case("board_judge", text, channel.encode(width, tracks, slip))
+        stubs = random_boards.stubbed(rng, rows, tracks, pieces)
+        yield Case("board_judge", text, channel.encode(width, tracks, stubs))
         yield Case("board_judge", text, random_boards.damaged_file(rng, file))
         yield Case("board_judge", text_cases.text(*random_channels.escaping(rng)), file)
     for _ in range(15):
@@ -113,8 +120,8 @@ def file_job(rng):
     text = text_cases.GOOD
     file = channel.board(text)
     long = bytes(channel.LIMIT + 1)
-    uneven, lone = text_cases.text([1, 1], [0]), text_cases.text([1], [0])
-    for pins in (None, b"", text, b"TOP 01", uneven, lone, long, text + long):
+    uneven, parked = text_cases.text([1, 1], [0]), text_cases.text([1], [0])
+    for pins in (None, b"", text, b"TOP 01", uneven, parked, long, text + long):
         for board in (None, b"", file, file[:-1], long[:-1], long, file + long):
             yield Case("board_judge", pins, board)
     full = [(1, 1 + k % 4, 0, 3) for k in range(4095)]

@@ -2,6 +2,7 @@
 import channel
 import random_channels
 import row_cases
+import small_channels
 
 TRUNK, BRANCH, CONTACT = range(3)
 # A tangled channel with a good layout: net 1 goes from TOP 1 on track 3 to column 2, down to track 1, and on to BOT 3;
@@ -64,18 +65,23 @@ def edges_of(group, tracks):
 
 def scattered(rng, width, tracks, count, longest=4):
     """A good layout of pieces drawn one by one, and then a channel that it fits, with pins at most edge places that its
-    copper reaches: rows, tracks and pieces."""
+    copper reaches, and parked pins at some that it does not: rows, tracks and pieces."""
     drawn = [p for p in (piece(rng, width, tracks, longest) for _ in range(count)) if p]
     drawn += crossings(rng, drawn, rng.choice((0.1, 0.4, 0.8)))
     rows, kept, nets = ([0] * width, [0] * width), [], 0
+    unreached = {(row, column) for row in (0, 1) for column in range(1, width + 1)}
     for group in groups_of(drawn):
         edges = edges_of(group, tracks)
-        if len(edges) < 2 or nets == 511:
+        if not edges or nets == 511:
             continue
         nets += 1
-        for row, column in edges if rng.random() < 0.7 else rng.sample(edges, rng.randint(2, len(edges))):
+        for row, column in edges if rng.random() < 0.7 else rng.sample(edges, rng.randint(1, len(edges))):
             rows[row][column - 1] = nets
+        unreached -= set(edges)
         kept += group
+    for row, column in rng.sample(sorted(unreached), min(len(unreached), 511 - nets, rng.randint(0, 3))):
+        nets += 1
+        rows[row][column - 1] = nets
     rng.shuffle(kept)
     repeated = rng.sample(kept, min(len(kept), rng.choice((0, 0, 1, 3))))
     return random_channels.renumbered(rng, *rows), tracks, kept + repeated
@@ -125,14 +131,16 @@ def copper(way):
 
 
 def net_through(rng, places, taken, width, tracks):
-    """Pieces that join some places, and the points that they cover; or None where a place can't be reached."""
+    """Pieces that join some places, and the points that they cover; or None where a place can't be reached. A parked
+    pin may have copper too: it is drawn to any point that is free, or to none."""
     own, pieces = [places[0]], []
-    for place in places[1:]:
-        way = path(rng, own, place, taken, width, tracks)
-        if way is None:
+    goals = places[1:] or [(rng.randint(0, 1), rng.randint(1, width), rng.randint(1, max(1, tracks)))]
+    for goal in goals:
+        way = path(rng, own, goal, taken, width, tracks)
+        if way is None and len(places) > 1:
             return None
-        pieces += copper(way)
-        own += [p for p in way if p not in own]
+        pieces += copper(way or own)
+        own += [p for p in way or () if p not in own]
     return pieces, own
 
 
@@ -162,6 +170,19 @@ def spaced(rng, top, bot, share):
     for pair in zip(top, bot):
         out += [(0, 0)] * (rng.random() < share) + [pair]
     return [a for a, _ in out], [b for _, b in out]
+
+
+def stubbed(rng, rows, tracks, pieces):
+    """A layout with a branch added at some parked pins. One that reaches no other pin and no copper is good, and so is
+    one that meets copper of its own; others make a short."""
+    out, width = list(pieces), len(rows[0])
+    parked = small_channels.parked_in(*rows)
+    for position, net in enumerate([*rows[0], *rows[1]]):
+        if net in parked and len(out) < 4095 and rng.random() < 0.5:
+            row = rng.choice((0, tracks, rng.randint(0, tracks)))
+            ends = (tracks - row, tracks + 1) if position < width else (0, row + 1)
+            out.insert(rng.randint(0, len(out)), (BRANCH, position % width + 1, *ends))
+    return out
 
 
 def routed(rng, rows):

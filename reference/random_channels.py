@@ -1,5 +1,7 @@
-"""Channels drawn by a seeded generator: every shape that routes or is tangled, and rows that refusals 3 to 6 catch."""
+"""Channels drawn by a seeded generator: every shape that routes or is tangled, with and without parked pins, and rows
+that refusals 3 to 5 catch."""
 import row_cases
+import small_channels
 
 NETS = range(1, 512)
 
@@ -23,10 +25,14 @@ def shuffled(rng, top, bot):
     return [top[c] for c in order], [bot[c] for c in order]
 
 
-def without_lone_pins(top, bot):
-    pins = top + bot
-    lone = {n for n in set(pins) if pins.count(n) == 1}
-    return [0 if n in lone else n for n in top], [0 if n in lone else n for n in bot]
+def parking(rng, top, bot):
+    """The same channel as it is, with some, or with many of its places given to parked pins, or with none parked."""
+    kind = rng.randrange(8)
+    if kind < 2:
+        return small_channels.without_parked(top, bot)
+    if kind < 4:
+        return top, bot
+    return row_cases.reserved(rng, top, bot, rng.choice((0.03, 0.1, 0.1, 0.3, 0.6, 1)), kind == 4)
 
 
 def narrow(rng, widest=14):
@@ -42,27 +48,29 @@ def ranked(rng, width, nets):
         pair = sorted(rng.randint(1, nets) for _ in range(2))
         top.append(pair[1] if rng.random() < 0.8 else 0)
         bot.append(pair[0] if rng.random() < 0.8 else 0)
-    return without_lone_pins(top, bot)
+    return top, bot
 
 
 def paired(rng, width, nets):
-    """Nets of two or three pins near each other, as a sparse channel has: many nets share a track."""
+    """Nets of two or three pins near each other, as a sparse channel has: many nets share a track. Where one pin takes
+    the place of another, a net may be left parked."""
     top, bot = [0] * width, [0] * width
     for net in range(1, nets + 1):
         column = rng.randrange(width)
         for _ in range(rng.randint(2, 3)):
             row = rng.choice((top, bot))
             row[min(width - 1, column + rng.randrange(8))] = net
-    return without_lone_pins(top, bot)
+    return top, bot
 
 
 def straight(rng, width):
     """Straight nets between others."""
-    top, bot = row_cases.random_free(rng, width, max(1, width // 3))
-    for net in range(600, 600 + rng.randint(1, width)):
+    nets = max(1, width // 3)
+    top, bot = row_cases.random_free(rng, width, nets)
+    for net in range(nets + 1, nets + 1 + rng.randint(1, width)):
         c = rng.randrange(width)
         top[c] = bot[c] = net
-    return without_lone_pins(top, bot)
+    return top, bot
 
 
 def chained(rng, longest=30):
@@ -70,8 +78,11 @@ def chained(rng, longest=30):
 
 
 def tangled(rng, longest=20):
-    """A ring with nets above it, which are stuck and no part of it, and at times a loose channel beside it."""
+    """A ring with nets above it, which are stuck and no part of it, and at times some free columns or a loose channel
+    beside it."""
     top, bot = row_cases.ring(rng.randint(2, longest), rng.randint(0, 4))
+    free = [0] * rng.choice((0, 0, 1, 3))
+    top, bot = top + free, bot + free
     if rng.random() < 0.5:
         more = narrow(rng, 8)
         above = max(top + bot)
@@ -81,7 +92,7 @@ def tangled(rng, longest=20):
 
 
 def escaping(rng):
-    """A narrow channel that escapes refusals 3 to 6."""
+    """A narrow channel that escapes refusals 3 to 5."""
     kind = rng.randrange(8)
     width = rng.randint(1, 20)
     if kind < 2:
@@ -98,13 +109,13 @@ def escaping(rng):
         rows = chained(rng)
     else:
         rows = tangled(rng)
-    return renumbered(rng, *rows)
+    return renumbered(rng, *parking(rng, *rows))
 
 
 def wide(rng):
-    """A channel of 512 columns, or nearly so, that escapes refusals 3 to 6."""
+    """A channel of 512 columns, or nearly so, that escapes refusals 3 to 5."""
     width = rng.choice((512, 512, 511, 500, rng.randint(100, 512)))
-    kind = rng.randrange(6)
+    kind = rng.randrange(8)
     if kind == 0:
         rows = row_cases.random_channel(rng, width, rng.randint(1, 511), rng.randint(2, 2 * width))
     elif kind == 1:
@@ -115,9 +126,13 @@ def wide(rng):
         rows = paired(rng, width, rng.randint(50, 400))
     elif kind == 4:
         rows = tangled(rng, 255)
-    else:
+    elif kind == 5:
         rows = row_cases.nested(rng.randint(2, 256))
-    return renumbered(rng, *rows)
+    elif kind == 6:
+        rows = chained(rng, 511)
+    else:
+        rows = [0] * width, [0] * width  # for parked pins alone
+    return renumbered(rng, *parking(rng, *rows))
 
 
 def high(rng, top, bot):
@@ -126,15 +141,6 @@ def high(rng, top, bot):
     for _ in range(rng.randint(1, 3)):
         row = rng.choice(rows)
         row[rng.randrange(len(row))] = rng.choice((512, 513, 1023, 65535, 65536, 65537, 2**31, 2**32 - 1))
-    return rows
-
-
-def lone(rng, top, bot):
-    """Some pin becomes one of another net, or none."""
-    rows = list(top), list(bot)
-    for _ in range(rng.randint(1, 3)):
-        row = rng.choice(rows)
-        row[rng.randrange(len(row))] = rng.choice((0, rng.choice(NETS)))
     return rows
 
 
@@ -148,8 +154,8 @@ def uneven(rng, top, bot):
 
 
 def refused(rng):
-    """Rows that refusals 3 to 6 mostly catch, two of them at once at times."""
+    """Rows that refusals 3 to 5 mostly catch, two of them at once at times."""
     rows = escaping(rng)
-    for change in rng.choice(((high,), (lone,), (lone,), (uneven,), (high, lone), (high, uneven), (lone, uneven))):
+    for change in rng.choice(((high,), (high,), (uneven,), (high, uneven))):
         rows = change(rng, *rows)
     return list(rows[0]), list(rows[1])

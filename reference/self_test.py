@@ -1,14 +1,25 @@
 """The test of the comparison itself: a wrong answer in each part has to be found, and shown with its input."""
+import random
+
 import batch
 import channel
+import entry_cases
 import exhaustive
 import layout_search
+import parked_checks
 import program_cases
+import random_boards
+import small_channels
 import text_cases
 
 ROWS = ([0, 1, 2, 3], [1, 2, 0, 3])
 PINS = "TOP 0 1 2 3\nBOT 1 2 0 3"
 FILE = channel.board(text_cases.GOOD)
+# The wrong entries of wrong_parked.c, and the jobs whose cases tell each. The search on small channels tells the
+# routers among them too.
+WRONG_PARKED = {"BLOCKS": ("channel_job",), "DRAWS": ("channel_job",), "COUNTS": ("channel_job",),
+                "SKIPS": ("own_board_job", "scatter_job", "maze_job")}
+WRONG_ROUTERS = ("BLOCKS", "DRAWS")
 
 
 def wrong_dues(cases, answers, first_difference):
@@ -61,7 +72,7 @@ def buffer_faults():
 
 def search_faults():
     """A search that finds a layout of a tangled channel, or none of another, or one of another number of tracks."""
-    rows = [([1, 2], [2, 1]), ROWS, ([7, 7], [0, 0])]
+    rows = [([1, 2], [2, 1]), ROWS, ([7, 7], [0, 0]), ([7, 7], [5, 0]), ([9], [8]), ([1, 2, 3], [2, 1, 0])]
     found = {exhaustive.shape_of(*r): layout_search.fewest(exhaustive.shape_of(*r)) for r in rows}
     if list(exhaustive.router_differences(rows, found)):
         yield "the router and the search differ"
@@ -80,10 +91,61 @@ def search_faults():
         yield "a wrong board is not found, or a right one called wrong"
 
 
+def parked_entry_faults(first_difference):
+    """Entries that get parked pins wrong, on cases as they are drawn and on all channels of 2 columns."""
+    small = [tuple(map(list, shape)) for shape in small_channels.shapes(2)]
+    found = {exhaustive.shape_of(*rows): layout_search.fewest(rows) for rows in small}
+    program = batch.PROGRAM.with_name("batch_parked")
+    for wrong, jobs in WRONG_PARKED.items():
+        batch.build(program=program, source="wrong_parked.c", flags=[f"-D{wrong}"])
+        for job in jobs:
+            cases, _ = entry_cases.made(("self-test", job, 0))
+            told = first_difference(cases, batch.answers([case.question for case in cases], program))
+            if not told or "no answer" in told:
+                yield f"the wrong entry {wrong} is not found by the cases of {job}: {told}"
+        if wrong in WRONG_ROUTERS and not list(exhaustive.router_differences(small, found, program)):
+            yield f"the wrong entry {wrong} is not found by the search"
+        if wrong in WRONG_ROUTERS and not list(parked_checks.router_differences(small, program)):
+            yield f"the wrong entry {wrong} is not found where the parked pins are removed"
+
+
+def with_parked_records(text):
+    """The listing that is due, with a record for each parked net as if it were straight."""
+    lines = channel.listing(text).splitlines(keepends=True)
+    if not lines[0].startswith(b"BOARD"):
+        return b"".join(lines)
+    rows = channel.parse(text)
+    columns = {net: c for c, pair in enumerate(zip(*rows), 1) for net in pair}
+    lines[2:-1] += [channel.line("NET", n, columns[n], columns[n], 0) for n in small_channels.parked_in(*rows)]
+    return b"".join(lines[:2] + sorted(lines[2:-1], key=lambda line: int(line.split()[1])) + lines[-1:])
+
+
+def parked_record_faults(first_difference):
+    """A listing program that has a record for each parked net, on cases as they are drawn; copper on a parked pin."""
+    drawn = program_cases.text_job(random.Random("self-test"))
+    cases = [case for case in drawn if case.program == "listing"]
+    if not first_difference(cases, [with_parked_records(case.pins) for case in cases]):
+        yield "a record for a parked net is not found"
+    text = text_cases.text([7, 5, 7], [0, 0, 0])
+    rows = channel.parse(text)
+    if parked_checks.record_fault(rows, channel.listing(text)):
+        yield "right records are called wrong"
+    if not parked_checks.record_fault(rows, with_parked_records(text)):
+        yield "a record for a parked net is not found on small channels"
+    tracks, _, pieces = channel.draw(*rows)
+    stub = pieces + [(random_boards.BRANCH, 2, 1, 2)]
+    if exhaustive.board_fault(rows, channel.encode(3, tracks, pieces), 1):
+        yield "a right board with a parked pin is called wrong"
+    if not exhaustive.board_fault(rows, channel.encode(3, tracks, stub), 1):
+        yield "copper on a parked pin is not found"
+
+
 def compare(first_difference, lacking):
     """The first fault of the comparison, or None; and what was tried, in words."""
-    faults = [*program_faults(first_difference), *entry_faults(first_difference), *buffer_faults(), *search_faults()]
+    faults = [*program_faults(first_difference), *entry_faults(first_difference), *buffer_faults(), *search_faults(),
+              *parked_entry_faults(first_difference), *parked_record_faults(first_difference)]
     if lacking({1, 2}, {1, 2, 3}) is None or lacking({1, 2}, {1, 2}):
         faults.append("a number that is never answered is not told")
     return faults[0] if faults else None, (
-        "wrong answers of programs and entries, spoilt buffers and a wrong search are found and shown")
+        "wrong answers of programs and entries, spoilt buffers, a wrong search, and records, copper, steps, density and"
+        " a judge that get parked pins wrong are found and shown")
