@@ -2,6 +2,8 @@
 import re
 from collections import namedtuple
 
+from command import refusals
+
 NUMBER = rb"(0|[1-9][0-9]{0,9})"
 GOOD = re.compile(rb"GOOD " + NUMBER + rb"\n")
 REFUSED = re.compile(rb"REFUSED " + NUMBER + rb" " + NUMBER + rb"\n(?:RING " + NUMBER + rb" " + NUMBER + rb"\n)*")
@@ -9,7 +11,6 @@ NET = rb"NET " + rb" ".join([NUMBER] * 4) + rb"\n"
 LISTING = re.compile(
     rb"BOARD " + rb" ".join([NUMBER] * 3) + rb"\nBOUND " + NUMBER + rb" " + NUMBER + rb"\n(?:" + NET + rb")*"
     rb"END " + NUMBER + rb"\n")
-HIGHEST = 14  # of the refusals and faults
 
 Facts = namedtuple("Facts", "width tracks blank density chain pieces")
 # word is GOOD or REFUSED; place is the tracks of a good board; ring has pairs of net and column
@@ -27,7 +28,7 @@ def refusal_of(output):
         return None
     number, place = numbers_of(match, 1, 2)
     ring = tuple(tuple(map(int, line.split()[1:])) for line in output.splitlines()[1:])
-    if number > HIGHEST or len(ring) != (place if number == 7 else 0):
+    if number not in refusals.NUMBERS or len(ring) != (place if number == 7 else 0):
         return None
     return Verdict("REFUSED", number, place, ring)
 

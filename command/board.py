@@ -2,6 +2,7 @@
 
 Writes the board file of a pin list on standard output, once the judge has passed it; or the lines of the list's
 refusal, with status 1. PINS is a file, or - for standard input. `channel make` puts the board in a file itself.
+Standard error says which pins are parked, if any are.
 """
 from command import answers, inputs, programs, told
 from command.standard import write_output

@@ -13,11 +13,16 @@ def meaning_of(verdict):
     return filled(read_table()[verdict.number].meaning, verdict.place)
 
 
+def is_of_board(verdict, pins):
+    """Whether a refusal speaks of the board file, which is looked at only after the pin list."""
+    return verdict.number >= 8 or (verdict.number == 0 and len(pins) <= verdict.place)
+
+
 def explained(verdict, pins, board=b"", pins_name="the pin list", board_name="the board file"):
     """Two sentences, without their full stops: what it means, with its place; and the remedy."""
     meaning, remedy = meaning_of(verdict), filled(read_table()[verdict.number].remedy, verdict.place)
     more = DETAILS.get(verdict.number, no_detail)(verdict.place, pins, board, verdict)
-    about = board_name if verdict.number >= 8 or (verdict.number == 0 and len(pins) <= verdict.place) else pins_name
+    about = board_name if is_of_board(verdict, pins) else pins_name
     return f"{about}: {meaning}" + (f"; {more}" if more else ""), remedy
 
 
@@ -48,11 +53,6 @@ def uneven(_place, pins, _board, _verdict):
 def high_net(place, pins, _board, _verdict):
     top, bot = rows_of(pins)
     return f"{cut((top + bot)[place - 1])} stands at {place_words(place, len(top))}"
-
-
-def lone_pin(place, pins, _board, _verdict):
-    top, bot = rows_of(pins)
-    return f"it stands at {place_words((top + bot).index(str(place)) + 1, len(top))}"
 
 
 def tangled(_place, _pins, _board, verdict):
@@ -107,5 +107,5 @@ def floating(place, _pins, board, _verdict):
     return f"it is a {boardfile.described(boardfile.piece_of(board, place))}"
 
 
-DETAILS = {2: garbled, 3: too_wide, 4: uneven, 5: high_net, 6: lone_pin, 7: tangled, 8: torn, 9: bad_field,
-           10: wrong_board, 11: short, 12: open_, 13: floating}
+DETAILS = {2: garbled, 3: too_wide, 4: uneven, 5: high_net, 7: tangled, 8: torn, 9: bad_field, 10: wrong_board,
+           11: short, 12: open_, 13: floating}

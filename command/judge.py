@@ -1,7 +1,8 @@
 """channel judge PINS BOARD
 
 Judges a board file against a pin list: prints GOOD and its tracks; or REFUSED with number and place, status 1, and says
-on standard error what is wrong and where. One of PINS and BOARD may be - for standard input.
+on standard error what is wrong and where, and which pins are parked, if any are. One of PINS and BOARD may be - for
+standard input.
 """
 from command import inputs, programs, told
 from command.standard import write_output

@@ -1,7 +1,7 @@
 """channel list PINS
 
 Prints the listing of a pin list: the lines BOARD, BOUND, one NET a net, and END; or those of its refusal, REFUSED and,
-for a tangled list, RING. PINS is a file, or - for standard input.
+for a tangled list, RING. PINS is a file, or - for standard input. Standard error says which pins are parked, if any.
 """
 from command import inputs, programs, told
 from command.standard import write_output

@@ -19,6 +19,8 @@ A pin list is two lines, TOP and BOT, each with one net number a column, 0 for n
   TOP 0 1 6 1 2 3 5
   BOT 6 3 5 4 0 2 4
 
+A number that stands just once parks its pin, which gets no copper; standard error then says so.
+
 Exit status: 0 for a listing, a board or a good one; 1 for a refusal or fault, which standard error explains; 2 for
 wrong use or a step that failed.
 """
@@ -48,7 +50,7 @@ def help_of(words):
 
 
 def operands_of(name, words):
-    """The operands of a command, or None if its help is asked for. Options end at --; a lone - is an operand."""
+    """The operands of a command, or None if its help is asked for. Options end at --; a single - is an operand."""
     operands, options = [], True
     for word in words:
         if options and word == "--":

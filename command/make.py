@@ -3,7 +3,8 @@
 Prints the listing of a pin list and puts its board file at BOARD, whole, and only once the judge has passed those very
 bytes. Under a refusal, and where any step fails, BOARD stays as it was. PINS may be - for standard input. BOARD may be
 - for standard output; the listing then goes to standard error. A file at BOARD is replaced, through a symbolic link
-too; a pipe or a character device is written into; a folder, and the pin list itself, are refused.
+too; a pipe or a character device is written into; a folder, and the pin list itself, are refused. Standard error says
+which pins are parked, if any are.
 """
 from command import answers, inputs, programs, told
 from command.output import Place
@@ -29,7 +30,7 @@ def run(pins_name, board_name):
         place.put(board)
     finally:
         place.discard()
-    return told.GOOD
+    return told.status(answer, pins, pins_name=pins_name)
 
 
 def print_listing(output, place):

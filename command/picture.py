@@ -2,7 +2,7 @@
 
 Writes an SVG picture on standard output: of the router's board of a pin list, or of a board file with what the judge
 says of it. A refused list or board is drawn with the refused place marked, a tangled list with its ring, and the
-status is 1. One of PINS and BOARD may be - for standard input.
+status is 1. Parked pins are hollow. One of PINS and BOARD may be - for standard input.
 """
 from command import answers, inputs, programs, told
 from command.explain import meaning_of

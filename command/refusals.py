@@ -4,6 +4,8 @@ from pathlib import Path
 
 TABLE = Path(__file__).resolve().parent / "refusals.tsv"
 HEADING = ["number", "word", "meaning", "remedy"]
+UNUSED = 6  # stands for no refusal; the numbers after it are as the paper has them
+NUMBERS = tuple(number for number in range(15) if number != UNUSED)
 
 Refusal = namedtuple("Refusal", HEADING)
 
@@ -13,15 +15,17 @@ class BadTable(Exception):
 
 
 def read_table(path=TABLE):
-    """The refusals by number, in rising number. Raises OSError or BadTable."""
+    """The refusals by number, in rising number, just those of NUMBERS. Raises OSError or BadTable."""
     lines = [line.split("\t") for line in Path(path).read_text(encoding="utf-8").splitlines()]
     if not lines or lines[0] != HEADING:
         raise BadTable(f"{path}: the first line must be the heading")
+    if len(lines) != 1 + len(NUMBERS):
+        raise BadTable(f"{path}: {len(NUMBERS)} refusals are due, one a line, and {len(lines) - 1} are there")
     table = {}
-    for at, fields in enumerate(lines[1:], 2):
-        if len(fields) != 4 or not all(fields) or fields[0] != str(len(table)):
-            raise BadTable(f"{path}, line {at}: refusal {len(table)} with three texts is due")
-        table[len(table)] = Refusal(len(table), *fields[1:])
+    for at, (number, fields) in enumerate(zip(NUMBERS, lines[1:]), 2):
+        if len(fields) != 4 or not all(fields) or fields[0] != str(number):
+            raise BadTable(f"{path}, line {at}: refusal {number} with three texts is due")
+        table[number] = Refusal(number, *fields[1:])
     return table
 
 

@@ -1,15 +1,27 @@
-"""The end of a command: a refusal is explained on standard error, and the exit status says which it was."""
+"""The end of a command: a refusal is explained on standard error, parked pins are told there, and the exit status says
+which it was."""
 from command import answers, inputs
-from command.explain import explained
+from command.explain import explained, is_of_board
+from command.parked import parked_words
+from command.pinlist import rows_of
 from command.standard import say
 
 GOOD, REFUSED, FAILED = 0, 1, 2
+TANGLED = 7
 
 
 def status(answer, pins, board=b"", pins_name="", board_name="the board file"):
-    """Explains an answer if it is a refusal or fault, and gives the exit status."""
-    if not isinstance(answer, answers.Verdict) or answer.word == "GOOD":
-        return GOOD
-    for words in explained(answer, pins, board, inputs.called(pins_name), inputs.called(board_name)):
-        say(words)
-    return REFUSED
+    """Explains an answer if it is a refusal or fault, tells of parked pins, and gives the exit status."""
+    refused = isinstance(answer, answers.Verdict) and answer.word != "GOOD"
+    if refused:
+        for words in explained(answer, pins, board, inputs.called(pins_name), inputs.called(board_name)):
+            say(words)
+    if not refused or answer.number == TANGLED or is_of_board(answer, pins):  # else the rows are not known
+        tell_parked(pins, pins_name)
+    return REFUSED if refused else GOOD
+
+
+def tell_parked(pins, pins_name):
+    words = parked_words(rows_of(pins))
+    if words:
+        say(f"{inputs.called(pins_name)}: {words}")

@@ -15,6 +15,8 @@ from pathlib import Path
 sys.dont_write_bytecode = True
 ROOT = Path(__file__).resolve().parent.parent
 A = b"TOP 0 1 2 3\nBOT 1 2 0 3\n"
+L = b"TOP 1 0\nBOT 0 0\n"
+L_LISTED = b"BOARD 2 0 8\nBOUND 0 0\nEND 0\n"
 USED = b"width 4, tracks 2, pieces 11, blank 8\n"
 STRICT = ("-O2", "-Wall", "-Wextra", "-Wpedantic", "-Werror")
 
@@ -67,9 +69,23 @@ class Installed(unittest.TestCase):
         self.assertFalse(list(self.prefix.rglob("__pycache__")) + list(self.prefix.rglob("target")))
         self.assertFalse(list(self.prefix.rglob("test*")))
 
+    def test_parked_pins(self):
+        """Example L: a board without tracks and pieces, and a word on standard error."""
+        pins, board = self.room / "parked", self.room / "parked.board"
+        pins.write_bytes(L)
+        command, told = self.prefix / "bin" / "channel", f"channel: {pins}: 1 pin is parked (net 1 at column 1, TOP): "
+        for words, output in ((("list", pins), L_LISTED), (("make", pins, board), L_LISTED),
+                              (("judge", pins, board), b"GOOD 0\n")):
+            done = run(command, *words)
+            self.assertEqual((done.returncode, done.stdout), (0, output))
+            self.assertEqual(done.stderr.decode(), f"{told}its number stands just once\n")
+        self.assertEqual(board.read_bytes(), bytes.fromhex("00800000"))
+        self.assertIn(b'class="parked-pin"', run(command, "picture", pins).stdout)
+
     def test_the_order_screen(self):
-        done = run(self.prefix / "bin" / "channel", "order", input=b"help\n")
+        done = run(self.prefix / "bin" / "channel", "order", input=L + b"show\n")
         self.assertEqual(done.returncode, 2 if OPTIONS else 0, done.stderr.decode())
+        self.assertTrue(OPTIONS or b"\n1 pin parked: net 1\n" in done.stdout)
 
     def test_a_c_program(self):
         self.assertEqual(self.built("c", "cc", "-std=c11", *STRICT, ROOT / "library" / "use.c"), USED)

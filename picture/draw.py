@@ -15,7 +15,7 @@ def draw(text, facts, board, verdict, words):
     if verdict.number == 2 or (verdict.word == "REFUSED" and verdict.number == 0 and len(text) > verdict.place):
         return draw_text(text, verdict, words)
     rows = rows_of(text)
-    if 3 <= verdict.number <= 6:
+    if 3 <= verdict.number <= 5:
         return draw_rows(rows, verdict, words)
     if verdict.number == 7:
         return draw_ring(rows, verdict, words)

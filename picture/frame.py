@@ -4,6 +4,7 @@ A frame without tracks has its two pin rows one tall step apart.
 """
 import textwrap
 
+from command.parked import parked_of, parked_words
 from picture.legend import draw_legend
 from picture.svg import Sheet, dashes, digits_wide
 
@@ -98,14 +99,28 @@ class Frame:
 
     def draw_pins(self):
         """A square for each pin with its net outside the board, a pale 0 where there is none."""
-        half = self.pad / 2
         with self.sheet.group("pins", font_size=self.label_size):
             for row, nets in ((self.tracks + 1, self.rows[0]), (0, self.rows[1])):
                 for c, net in enumerate(nets, 1):
                     if net != "0":
-                        self.sheet.add("rect", class_="pin", x=self.x(c) - half, y=self.y(row) - half, width=self.pad,
-                                       height=self.pad)
+                        self._draw_square(c, row, self.pad, class_="pin")
                     self._draw_net(c, row, labelled(net))
+
+    def draw_parked(self):
+        """A hollow square over each parked pin's own, in rows that escape refusals 3 to 5. Answers what the legend and
+        the caption add."""
+        parked, line = parked_of(self.rows), min(2.2, 0.22 * self.pad)
+        if not parked:
+            return [], []
+        with self.sheet.group("parked", stroke_width=line):
+            for position in parked:
+                _, column, row = self.pin_place(position)
+                self._draw_square(column, row, self.pad - line, class_="parked-pin")
+        return ["parked"], [parked_words(self.rows)]
+
+    def _draw_square(self, column, row, size, class_):
+        self.sheet.add("rect", class_=class_, x=self.x(column) - size / 2, y=self.y(row) - size / 2, width=size,
+                       height=size)
 
     def _draw_net(self, column, row, net):
         x, y, side = self.x(column), self.y(row), 1 if row == 0 else -1

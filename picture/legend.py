@@ -7,6 +7,7 @@ WORDS = {
     "contact": "contact: the sides are joined",
     "crossing": "crossing: not joined",
     "pin": "pin with its net",
+    "parked": "parked pin: its number stands just once",
     "mark": "the place of the fault",
     "refused": "the refused place",
     "ring": "pin of the ring",
@@ -46,6 +47,9 @@ def draw_sample(sheet, kind, x, y, u):
         sheet.add("circle", class_="contact", cx=middle, cy=y, r=4.5 * u)
     if kind == "pin":
         sheet.add("rect", class_="pin", x=middle - 5 * u, y=y - 5 * u, width=10 * u, height=10 * u)
+    if kind == "parked":
+        sheet.add("rect", class_="parked-pin", x=middle - 4 * u, y=y - 4 * u, width=8 * u, height=8 * u,
+                  stroke_width=2 * u)
     if kind == "ring":
         sheet.add("rect", class_="ring-pin", x=middle - 5 * u, y=y - 5 * u, width=10 * u, height=10 * u)
     if kind in ("mark", "refused", "partner"):

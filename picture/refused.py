@@ -17,12 +17,13 @@ def draw_ring(rows, verdict, words):
     frame.draw_grid()
     frame.draw_bands(column for _, column in verdict.ring)
     frame.draw_pins()
+    parked, more = frame.draw_parked()
     with frame.sheet.group("marks"):
         draw_same_nets(frame, verdict.ring)
         for _, column in verdict.ring:
             draw_step(frame, column)
         draw_pills(frame, verdict.ring)
-    return frame.finish(title, ["pin", "ring", "above", "same"], [words] + spelt(verdict.ring))
+    return frame.finish(title, ["pin", *parked, "ring", "above", "same"], [words, *spelt(verdict.ring), *more])
 
 
 def onward(ring):
@@ -97,7 +98,7 @@ def draw_rows(rows, verdict, words):
 
 
 def refused_places(frame, rows, verdict):
-    """The columns and rows to mark for refusals 3 to 6, and what the caption adds."""
+    """The columns and rows to mark for refusals 3 to 5, and what the caption adds."""
     place, pins = verdict.place, rows[0] + rows[1]
     if verdict.number == 3:
         places = [(place, 1 - i) for i, row in enumerate(rows) if len(row) >= place]
@@ -106,8 +107,5 @@ def refused_places(frame, rows, verdict):
     if verdict.number == 4:
         row, side = (1, "TOP") if len(rows[0]) < len(rows[1]) else (0, "BOT")
         return [(place, row)], f"{side} ends before column {place}, and the other row goes on."
-    if verdict.number == 5:
-        side, column, row = frame.pin_place(place)
-        return [(column, row)], f"Net {labelled(pins[place - 1])} is at the {side} pin of column {column}."
-    side, column, row = frame.pin_place(pins.index(str(place)) + 1)
-    return [(column, row)], f"It is the {side} pin of column {column}; a net joins two pins or more."
+    side, column, row = frame.pin_place(place)
+    return [(column, row)], f"Net {labelled(pins[place - 1])} is at the {side} pin of column {column}."

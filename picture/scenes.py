@@ -95,13 +95,14 @@ def draw_board(rows, board_bytes, facts, verdict, words):
         frame.draw_bands([frame.pin_place(verdict.place)[1]])
     draw_copper(frame, board.pieces)
     frame.draw_pins()
-    kinds, sentences = list(COPPER), [words]
+    parked, of_parked = frame.draw_parked()
+    marks, sentences = [], [words]
     if verdict.word != "GOOD":
         mark = mark_piece if verdict.number == 13 else mark_pins
         with frame.sheet.group("marks"):
             marks, more = mark(frame, verdict, board.pieces)
-        kinds, sentences = kinds + marks, [words, more]
-    return frame.finish(title, kinds, sentences)
+        sentences.append(more)
+    return frame.finish(title, COPPER + parked + marks, sentences + of_parked)
 
 
 def draw_pins_only(rows, board_bytes, verdict, words):
@@ -111,7 +112,8 @@ def draw_pins_only(rows, board_bytes, verdict, words):
     frame.draw_title(title, status_of(verdict), False)
     frame.draw_grid()
     frame.draw_pins()
+    parked, of_parked = frame.draw_parked()
     sentences = [words]
     if verdict.number == 9 and verdict.place:
         sentences.append(f"Piece {verdict.place} of the file reads: {described(piece_of(board_bytes, verdict.place))}.")
-    return frame.finish(title, ["pin"], sentences)
+    return frame.finish(title, ["pin", *parked], sentences + of_parked)

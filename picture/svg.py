@@ -14,6 +14,7 @@ text { font-family: 'DejaVu Sans', Verdana, Arial, sans-serif; fill: #1d2733 }
 .column-number, .track-number, .side { fill: #5b676d }
 .no-pin { fill: #a9b2b6 }
 .pin { fill: #46525a }
+.parked-pin { fill: #fcfcfa; stroke: #46525a }
 .trunk { stroke: #0f6cab; stroke-linecap: round }
 .gap { stroke: #eff2f0; fill: none }
 .paper-gap { stroke: #fcfcfa }

@@ -1,7 +1,6 @@
 """The pin lists and board files that pictures are tested on, and what has to be marked in those of the refused ones."""
 import random
 import sys
-from collections import Counter
 from pathlib import Path
 
 sys.dont_write_bytecode = True
@@ -11,6 +10,7 @@ import channel  # noqa: E402  (the independent program; its folder is on the pat
 A = b"TOP 0 1 2 3\nBOT 1 2 0 3\n"
 B = b"TOP 0 1 6 1 2 3 5\nBOT 6 3 5 4 0 2 4\n"
 D = b"TOP 1 2 3 1\nBOT 2 3 2 0\n"
+OPPOSITE = b"TOP 1 1 3\nBOT 2 0 0\n"  # nets 2 and 3 are parked, 2 opposite a pin of net 1
 # a good board of the tangled D, whose net 2 has two trunks joined in column 4
 SPLIT = [(0, 4, 1, 4), (1, 1, 4, 5), (2, 1, 4, 4), (1, 4, 4, 5), (2, 4, 4, 4), (0, 3, 2, 4), (0, 1, 1, 4), (1, 4, 1, 3),
          (2, 4, 3, 3), (2, 4, 1, 1), (1, 1, 0, 1), (2, 1, 1, 1), (1, 2, 3, 5), (2, 2, 3, 3), (1, 3, 0, 1), (2, 3, 1, 1),
@@ -27,8 +27,7 @@ def random_channel(width, nets, seed):
     order = draw.sample(range(1, nets + 1), nets)
     columns = [sorted(draw.choices(range(nets), k=2)) for _ in range(width)]
     top, bot = ([order[pair[i]] if draw.random() < 0.8 else 0 for pair in columns] for i in (0, 1))
-    pins = Counter(top + bot)
-    return text_of(*([n if pins[n] > 1 else 0 for n in row] for row in (top, bot)))
+    return text_of(top, bot)
 
 
 def staircase(nets):
@@ -46,12 +45,14 @@ def turned(width, by):
 GOOD = {"A": A, "B": B, "E": b"TOP 1 0 1 2 0 2\nBOT 0 3 0 0 3 0\n", "F": b"TOP 0\nBOT 0\n", "G": b"TOP 5\nBOT 5\n",
         "M, net 511": b"TOP 511\nBOT 511\n", "M, 512 columns": text_of([0] * 512, [0] * 512),
         "64 columns": random_channel(64, 30, 1), "512 columns": random_channel(512, 511, 2),
-        "401 tracks": staircase(401)}
-RINGS = {"C": b"TOP 1 2\nBOT 2 1\n", "D": D, "40 columns": turned(40, 7), "511 columns": turned(511, 1)}
+        "401 tracks": staircase(401), "L": b"TOP 1 0\nBOT 0 0\n", "parked, opposite a net": OPPOSITE,
+        "all parked": text_of(range(1, 201), range(201, 401))}
+RINGS = {"C": b"TOP 1 2\nBOT 2 1\n", "D": D, "40 columns": turned(40, 7), "511 columns": turned(511, 1),
+         "parked": b"TOP 1 2 3 1 0 8\nBOT 2 3 2 9 41 0\n"}
 REFUSED_ROWS = {  # text, columns drawn, marked points
-    "L": (b"TOP 1 0\nBOT 0 0\n", 2, {(1, 1)}), "M, net 512": (b"TOP 512\nBOT 512\n", 1, {(1, 1)}),
+    "M, net 512": (b"TOP 512\nBOT 512\n", 1, {(1, 1)}),
     "M, 513 columns": (text_of([0] * 513, [0] * 513), 513, {(513, 1), (513, 0)}),
-    "far too wide": (text_of([1] * 20000, [1]), 516, {(513, 1)}), "uneven": (b"TOP 1 2 2\nBOT 1\n", 3, {(2, 0)}),
+    "far too wide": (text_of([1] * 20000, [1]), 516, {(513, 1)}), "uneven": (b"TOP 1 2 3\nBOT 1\n", 3, {(2, 0)}),
     "5,000 digits": (text_of([1, 1, 0], [0, 0, "9" * 5000]), 3, {(3, 0)})}
 REFUSED_TEXTS = {  # text, marked cell, cells
     "K": (b"TOP 01", 5, list("TOP·01")),
@@ -83,6 +84,13 @@ def taller():
     return channel.encode(width, tracks + 3, longer)
 
 
+def to_parked():
+    """Boards of OPPOSITE with one branch more: from the parked pin of net 3 down; from net 1's to that of net 2."""
+    width, tracks, pieces = channel.open_board(channel.board(OPPOSITE))
+    return {"copper at a parked pin": channel.encode(width, tracks, pieces + [(1, 3, 1, 2)]),
+            "short to a parked pin": channel.encode(width, tracks, pieces + [(1, 1, 0, 1)])}
+
+
 def runs():
     """The faulty files; and for the name of each run its pin list, board file if any, standard input if any."""
     files = faulty()
@@ -92,6 +100,7 @@ def runs():
     table.update({name: (A, case[0]) for name, case in REFUSED_BOARDS.items()})
     table["A again"] = (A, channel.board(A))
     table["taller"] = (A, taller())
+    table.update({name: (OPPOSITE, file) for name, file in to_parked().items()})
     table["split"] = (D, channel.encode(4, 4, SPLIT))
     table["standard input"] = (b"", None, B)
     return files, table

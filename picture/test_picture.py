@@ -16,7 +16,8 @@ from xml.etree.ElementTree import ParseError
 
 sys.dont_write_bytecode = True
 from read_back import SVG, Sheet  # noqa: E402  (no compiled copies are to be left in the tree)
-from test_cases import A, D, GOOD, REFUSED_BOARDS, REFUSED_ROWS, REFUSED_TEXTS, RINGS, channel, runs  # noqa: E402
+from test_cases import (A, D, GOOD, OPPOSITE, REFUSED_BOARDS, REFUSED_ROWS, REFUSED_TEXTS, RINGS, channel,  # noqa: E402
+                        runs)
 
 ROOT = Path(__file__).resolve().parent.parent
 LARGEST = 2_000_000
@@ -97,6 +98,23 @@ def check_frame(name, sheet, top, bot):
     check(f"{name}: track numbers apart", all(a - b >= size for (_, a), (_, b) in zip(heights, heights[1:])))
 
 
+def check_parked(name, answer, sheet, due):
+    """Just these points are marked as parked; legend, caption and standard error tell of them, or of none."""
+    marked = sheet.inside("parked", "parked-pin")
+    check(f"{name}: parked pins", len(marked) == len(due) and {sheet.middle(e) for e in marked} == due)
+    check(f"{name}: parked in the legend", len(sheet.inside("legend", "parked-pin")) == bool(due))
+    words = "1 pin is parked" if len(due) == 1 else f"{len(due)} pins are parked"
+    for told in (sheet.words(), answer[2].decode()):
+        check(f"{name}: parked in words", (words in told) == bool(due) and (" parked" in told) == bool(due))
+
+
+def parked_by_listing(pins, tracks):
+    """The points of the pins whose number has no NET line."""
+    nets = {int(line.split()[1]) for line in answered("listing", pins).splitlines() if line.startswith(b"NET ")}
+    rows = zip((tracks + 1, 0), channel.parse(pins))
+    return {(c, r) for r, row in rows for c, net in enumerate(row, 1) if net and net not in nets}
+
+
 def check_board(name, answer, pins, file, status=0):
     width, tracks, pieces = channel.open_board(file)
     check(f"{name}: status", answer[0] == status)
@@ -114,6 +132,7 @@ def check_routed(name, answer, pins):
     title = "width {} · tracks {} · blank {} · density {} · chain {}".format(*board[1:], *bound[1:])
     check(f"{name}: title", title in sheet.words())
     check(f"{name}: no marks", not sheet.inside("marks", "mark", "partner", "piece-mark"))
+    check_parked(name, answer, sheet, parked_by_listing(pins, sheet.tracks))
 
 
 def boxed(sheet, class_="mark"):
@@ -147,6 +166,9 @@ def check_ring(name, answer, pins):
     pills = {e.text for g in sheet.root.iter(SVG + "g") if g.get("class") == "pills" for e in g.iter(SVG + "text")}
     check(f"{name}: above", pills and pills <= above and (len(ring) > 40 or pills == above))
     check(f"{name}: words", "lie above itself" in sheet.words())
+    once = {net for net, count in Counter(top + bot).items() if net and count == 1}
+    check_parked(name, answer, sheet, {(c, r) for r, row in ((1, top), (0, bot)) for c, net in enumerate(row, 1)
+                                       if net in once})
 
 
 def check_rows(name, answer, columns, marks):
@@ -155,6 +177,7 @@ def check_rows(name, answer, columns, marks):
     sheet = sheet_of(name, answer)
     check(f"{name}: columns", sheet.columns == columns)
     check(f"{name}: marks", boxed(sheet) == marks)
+    check_parked(name, answer, sheet, set())
 
 
 def check_text(name, answer, cell, shown):
@@ -178,6 +201,14 @@ def check_faults(answers, files):
     check("J: words", "trunk, track 2, columns 3 to 4" in sheets["J"].words())
     for name, fault in (("H", "12 6: open"), ("I", "11 3: short"), ("J", "13 12: floating")):
         check(f"{name}: fault", f"REFUSED {fault}" in sheets[name].words() and b"\n" == answers[name][2][-1:])
+
+
+def check_at_parked_pins(answers, table):
+    """Copper may end at a parked pin alone; joined to another net's pin it is a short."""
+    for name, status in (("copper at a parked pin", 0), ("short to a parked pin", 1)):
+        sheet = check_board(name, answers[name], OPPOSITE, table[name][1], status)
+        check_parked(name, answers[name], sheet, {(1, 0), (3, 2)})
+    check("short to a parked pin: mark", boxed(sheet) == {(1, 0)} and "REFUSED 11 4: short" in sheet.words())
 
 
 def check_boards_refused(answers):
@@ -214,6 +245,7 @@ def main():
     for name, (_, cell, shown) in REFUSED_TEXTS.items():
         check_text(name, answers[name], cell, shown)
     check_boards_refused(answers)
+    check_at_parked_pins(answers, table)
     split = check_board("split", answers["split"], D, table["split"][1])
     check("split: title", "tracks 4 · tangled list" in split.words())
     taller = check_board("taller", answers["taller"], A, table["taller"][1])

@@ -58,6 +58,12 @@ void board_view_pins(struct board_view *view, const uint32_t *top, const uint32_
     view->pitch = digits_of(greatest) + 1 < 3 ? 3 : digits_of(greatest) + 1;
 }
 
+void board_view_parked(struct board_view *view, const bool *top, const bool *bot)
+{
+    view->top_parked = top;
+    view->bot_parked = bot;
+}
+
 size_t board_view_cells(const struct board_view *view)
 {
     return (size_t)view->width * view->pitch;
@@ -148,18 +154,24 @@ static size_t last_column(const struct board_view *view, size_t from, size_t cou
     return column < view->width ? column : view->width;
 }
 
-/* The pins of row 0 or t + 1: a net number, or a dot where no pin is and no branch ends. */
+/* The pins of row 0 or t + 1: a net number, with a p before it if the pin is parked, or a dot where no pin is and no
+ * branch ends. A number leaves the first cell of its column free. */
 static void put_pins(const struct board_view *view, size_t line, size_t from, size_t count, struct board_cell *cells)
 {
     const uint32_t *pins = line == 0 ? view->top : view->bot;
+    const bool *parked = line == 0 ? view->top_parked : view->bot_parked;
     for (size_t c = first_column(view, from); c <= last_column(view, from, count); c++) {
         size_t x = board_view_cell_of(view, c), position = line == 0 ? c : view->width + c;
         uint32_t net = pins == NULL ? 0 : pins[c - 1];
-        struct board_cell pin = {'0', LOOK_PIN, position == view->marked_position};
+        bool is_parked = net != 0 && parked != NULL && parked[c - 1];
+        struct board_cell pin = {'0', is_parked ? LOOK_PARKED : LOOK_PIN, position == view->marked_position};
         if (net != 0)
             put_number(view, net, pin, c, from, count, cells);
         else if (x >= from && x < from + count && cells[x - from].look == LOOK_BLANK)
             cells[x - from] = (struct board_cell){'.', LOOK_NO_PIN, false};
+        x -= is_parked ? digits_of(net) : 0;
+        if (is_parked && x >= from && x < from + count)
+            cells[x - from] = (struct board_cell){'p', LOOK_PARKED, false};
     }
 }
 

@@ -16,7 +16,9 @@ enum {
     DRAWING_MOST = 2560  /* cells of the widest drawing, or more */
 };
 
-enum look { LOOK_BLANK, LOOK_TRUNK, LOOK_BRANCH, LOOK_CROSSING, LOOK_CONTACT, LOOK_PIN, LOOK_NO_PIN, LOOK_COLUMN };
+enum look {
+    LOOK_BLANK, LOOK_TRUNK, LOOK_BRANCH, LOOK_CROSSING, LOOK_CONTACT, LOOK_PIN, LOOK_PARKED, LOOK_NO_PIN, LOOK_COLUMN
+};
 
 struct board_cell {
     char ascii;
@@ -28,6 +30,7 @@ struct board_view {
     const uint8_t *bytes;
     uint32_t width, tracks, pieces; /* as the header has them; of the pieces, those that the file holds */
     const uint32_t *top, *bot;      /* the pins, or NULL where the board is of another width than the list */
+    const bool *top_parked, *bot_parked; /* which of them are parked, or NULL for none */
     uint32_t marked_piece, marked_position; /* 0 for none */
     uint32_t pitch;
 };
@@ -35,6 +38,9 @@ struct board_view {
 /* Opens a view without pins and marks. Answers false where the header has no width that a drawing could have. */
 bool board_view_open(struct board_view *view, const uint8_t *bytes, size_t length);
 void board_view_pins(struct board_view *view, const uint32_t *top, const uint32_t *bot);
+
+/* A parked pin is drawn with a p before its number. */
+void board_view_parked(struct board_view *view, const bool *top, const bool *bot);
 
 /* The size of the drawing. */
 size_t board_view_cells(const struct board_view *view);

@@ -65,7 +65,7 @@ def words_of_the_table(folder):
     a = text_of(A)
     cases = {
         0: a + b"judge large\n", 2: b"TOP 01\nBOT 1\nshow\n", 3: text_of(([0] * 513, [0] * 513)) + b"show\n",
-        4: b"TOP 0 0\nBOT 0\nshow\n", 5: b"TOP 512\nBOT 0\nshow\n", 6: b"TOP 1\nBOT 0\nshow\n",
+        4: b"TOP 0 0\nBOT 0\nshow\n", 5: b"TOP 512\nBOT 0\nshow\n",
         7: b"TOP 1 2\nBOT 2 1\nshow\n",
         8: a + b"judge refused8\n", 9: a + b"judge refused9\n", 10: a + b"judge refused10\n",
         11: a + b"judge i\n", 12: a + b"judge h\n", 13: a + b"judge j\n"}
@@ -94,8 +94,8 @@ def mistakes(folder):
     complaint("missing folder", a + b"save none/x\n", "cannot write")
     complaint("a file that exists", a + b"save new\n", "the file exists, and only 'replace' writes over it: new")
     complaint("a list that exists", a + b"save-pins new\n", "and only 'replace-pins' writes over it: new")
-    complaint("no board", b"TOP 1\nBOT 0\nsave y\n", "there is no board to save")
-    complaint("a list refused first", b"TOP 1\nBOT 0\njudge good\n", "no board is judged")
+    complaint("no board", b"TOP 1\nBOT 0 1\nsave y\n", "there is no board to save")
+    complaint("a list refused first", b"TOP 1\nBOT 0 1\njudge good\n", "no board is judged")
     complaint("a row of 70,000 bytes", b"TOP " + b"0 " * 35000 + b"\n", "REFUSED 0 65536")
     complaint("a file of 70,000 bytes", b"load large\n", "REFUSED 0 65536")
     (folder / "more").write_bytes(b"TOP 0\nBOT 0\nx")
@@ -163,7 +163,8 @@ def random_board(chance):
 
 
 def random_boards(folder):
-    """Drawings of random boards, and the verdict on them. Signs at pins are left out; no marked piece is compared."""
+    """Drawings of random boards, and the verdict on them. Signs at pins are left out, and what is said of parked ones;
+    no marked piece is compared."""
     chance = random.Random(1)
     commands, due = b"", []
     for n in range(300):
@@ -173,7 +174,8 @@ def random_boards(folder):
         said = channel.judged(text_of(rows), board).decode().strip()
         if int(said.split()[1]) > 7 or said.startswith("GOOD"):
             due.append((said, [] if said.startswith("REFUSED 13") else drawing(rows, board)))
-    out = [line for line in piped(folder, commands)[0] if line.strip() not in ("v", "^") and line[:11] != "What to do:"]
+    out = [line for line in piped(folder, commands)[0]
+           if (not line or line.strip(" v^p")) and line[:11] != "What to do:" and " parked: " not in line]
     verdicts = [i for i, line in enumerate(out) if line.startswith(("GOOD", "REFUSED"))]
     check("random boards: verdicts", [out[i].split("  ")[0] for i in verdicts], [said for said, _ in due])
     for i, (said, shown) in zip(verdicts, due):

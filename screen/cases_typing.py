@@ -49,12 +49,14 @@ def first_refusals(s):
     s.expect_start("a number due: where", MORE, "belong there (BOT column 4: the row ends where a number is due)")
     s.expect_line("a number due: mark", BOT_MARKS, " " * 21 + "^")
     s.expect_start("a number due: what to do", DRAWING, "  What to do: write two lines, 'TOP' and 'BOT', one space")
-    s.type("0")
-    s.expect_line("lone pin", VERDICT, "REFUSED 6 3  lone pin: net 3 has just one pin (TOP column 4)")
-    s.expect_line("lone pin: mark over TOP", TOP_MARKS, columns(4, sign="v"))
-    s.expect("lone pin: cell of TOP", lambda: s.grid.cells_marked(TOP_LINE), [20])
-    s.expect_line("lone pin: no mark under BOT", BOT_MARKS, "")
-    s.expect("lone pin: red", lambda: s.grid.cells[VERDICT][0][1], (1, 31))
+    s.type("512")
+    s.expect_start("high net", VERDICT, "REFUSED 5 8  high net: the net at pin position 8 is over 511")
+    s.expect_line("high net: mark under BOT", BOT_MARKS, " " * 18 + "^^^")
+    s.expect("high net: cells of BOT", lambda: s.grid.cells_marked(BOT_LINE), [18, 19, 20])
+    s.expect_line("high net: no mark over TOP", TOP_MARKS, "")
+    s.expect("high net: red", lambda: s.grid.cells[VERDICT][0][1], (1, 31))
+    s.type(ERASE * 3 + "0")
+    s.expect_start("no pin there", VERDICT, "width 4  tracks 2")
 
 
 def letters(s):

@@ -6,18 +6,24 @@
  *     upper 32 bits N     refusal or fault N of the shop's table; the lower 32 bits hold its place
  *                         (a place over 4,294,967,295 is shown as 4,294,967,295)
  *
- * No entry asks anything of its buffers: one that is too short is refused (number 1, the length needed). A pointer may be NULL where its
- * length is 0. A refusal changes nothing that was lent, except scratch and, under 7, the front of the ring. Buffers must not overlap.
+ * No entry asks anything of its buffers: one that is too short is refused (number 1, the length needed). A pointer may
+ * be NULL where its length is 0. A refusal changes nothing that was lent, except scratch and, under 7, the front of the
+ * ring. Buffers must not overlap.
  *
- * Rows hold one net number a column, 0 for no pin. Pin positions, where a place is one, are 1 to w for TOP and w + 1 to 2w for BOT.
+ * Rows hold one net number a column, 0 for no pin. Pin positions, where a place is one, are 1 to w for TOP and w + 1 to
+ * 2w for BOT.
+ *
+ * A pin whose net number stands nowhere else in the two rows is parked: cabjirt_route leaves it bare, and it counts
+ * neither in density nor in chain. No entry tells which pins are parked: a caller who wants to know counts the numbers.
+ * To cabjirt_judge a parked pin is a net of its own: copper joined to it alone is good, joined to another pin a short.
  *
  *   No  word         place
  *    1  short tray   the length needed
- *    2  garbled      the length of the longest start that some pin list shares: the offset of the byte that does not belong
+ *    2  garbled      the length of the longest start that some pin list shares: the offset of the byte that does not
+ *                    belong
  *    3  too wide     513
  *    4  uneven       the shorter length plus 1
  *    5  high net     the lowest pin position with a number over 511
- *    6  lone pin     the lowest net with just one pin
  *    7  tangled      the number of pairs (net, column) at the front of the ring
  *    8  torn         the length due
  *    9  bad field    0 for the header, else the number of the lowest bad piece
@@ -26,6 +32,8 @@
  *   12  open         the lowest pin position not joined to its net's first pin
  *   13  floating     the number of the lowest piece joined to no pin
  *   14  no blank     the tracks wanted
+ *
+ * The number 6 is not used.
  */
 #ifndef CABJIRT_CHANNEL_H
 #define CABJIRT_CHANNEL_H
@@ -51,18 +59,21 @@ static inline uint32_t cabjirt_number(uint64_t answer) { return (uint32_t)(answe
 /* The lower half: the value, or the place. */
 static inline uint32_t cabjirt_value(uint64_t answer) { return (uint32_t)answer; }
 
-/* Reads a pin list. Value: the width w; the first w numbers of each row are the list's, the rest stay. Refusals 1 to 6. */
+/* Reads a pin list. Value: the width w; the first w numbers of each row are the list's, the rest stay. Refusals 1 to
+ * 5. */
 uint64_t cabjirt_read(const uint8_t *text, size_t text_length, uint32_t *top, size_t top_length, uint32_t *bot,
                       size_t bot_length);
 
-/* The bounds of a channel. Value: density * 65536 + chain; a tangled channel has chain 0. Refusals 3 to 6. */
+/* The bounds of a channel. Value: density * 65536 + chain; a tangled channel has chain 0. Refusals 3 to 5. */
 uint64_t cabjirt_bounds(const uint32_t *top, size_t top_length, const uint32_t *bot, size_t bot_length);
 
-/* Routes a channel. Value: pieces * 65536 + tracks; the first 4 + 4 * pieces bytes of the board are the board file, the rest stay. Refusals 1, 3 to 7. */
+/* Routes a channel. Value: pieces * 65536 + tracks; the first 4 + 4 * pieces bytes of the board are the board file, the
+ * rest stay. Parked pins get no copper. Refusals 1, 3 to 5 and 7. */
 uint64_t cabjirt_route(const uint32_t *top, size_t top_length, const uint32_t *bot, size_t bot_length, uint32_t *ring,
                        size_t ring_length, uint8_t *board, size_t board_length);
 
-/* Judges a board file of exactly board_length bytes, tangled channels included. Value: its tracks. Refusals 1, 3 to 6, 8 to 10 and faults 11 to 13. */
+/* Judges a board file of exactly board_length bytes, tangled channels included. Value: its tracks. Refusals 1, 3 to 5
+ * and 8 to 10, and faults 11 to 13. */
 uint64_t cabjirt_judge(const uint32_t *top, size_t top_length, const uint32_t *bot, size_t bot_length,
                        const uint8_t *board, size_t board_length, uint32_t *scratch, size_t scratch_length);
 

@@ -19,6 +19,7 @@ void order_changed(struct order *order)
 {
     order->judged.shown = false;
     answer_pins(&order->pins, &order->answer);
+    parked_find(&order->pins, &order->answer, &order->parked);
     refusal_explain(&order->pins, &order->answer, &order->answer.verdict, &order->finding);
 }
 
@@ -32,6 +33,12 @@ const struct verdict *order_verdict(const struct order *order)
     return order->judged.shown ? &order->judged.verdict : &order->answer.verdict;
 }
 
+static void view_pins(const struct order *order, struct board_view *view)
+{
+    board_view_pins(view, order->answer.rows[TOP_ROW], order->answer.rows[BOT_ROW]);
+    board_view_parked(view, order->parked.pins[TOP_ROW], order->parked.pins[BOT_ROW]);
+}
+
 bool order_view(const struct order *order, struct board_view *view)
 {
     const struct answer *answer = &order->answer;
@@ -39,13 +46,13 @@ bool order_view(const struct order *order, struct board_view *view)
     if (!order->judged.shown) {
         if (verdict->refused || !board_view_open(view, answer->board, answer_board_length(answer)))
             return false;
-        board_view_pins(view, answer->rows[TOP_ROW], answer->rows[BOT_ROW]);
+        view_pins(order, view);
         return true;
     }
     if (!board_view_open(view, order->judged.bytes, order->judged.length))
         return false;
     if (view->width == answer->width)
-        board_view_pins(view, answer->rows[TOP_ROW], answer->rows[BOT_ROW]);
+        view_pins(order, view);
     if (verdict->refused && (verdict->number == 9 || verdict->number == 13))
         view->marked_piece = verdict->place;
     if (verdict->refused && (verdict->number == 11 || verdict->number == 12))
@@ -62,8 +69,8 @@ void order_summary(const struct order *order, char summary[MESSAGE_MOST])
     if (verdict->refused) {
         const char *word = refusal_word(verdict->number);
         bool said = strstr(finding->meaning, word) != NULL; /* a meaning that has the word needs it no second time */
-        snprintf(summary, MESSAGE_MOST, "REFUSED %u %u  %s%s%s%s%s%s", verdict->number, verdict->place, said ? "" : word,
-                 said ? "" : ": ", finding->meaning, *where ? " (" : "", where, *where ? ")" : "");
+        snprintf(summary, MESSAGE_MOST, "REFUSED %u %u  %s%s%s%s%s%s", verdict->number, verdict->place,
+                 said ? "" : word, said ? "" : ": ", finding->meaning, *where ? " (" : "", where, *where ? ")" : "");
     }
     else if (order->judged.shown)
         snprintf(summary, MESSAGE_MOST, "GOOD %u  the board is good, on %u tracks", order->judged.tracks,

@@ -5,6 +5,7 @@
 #include "answer.h"
 #include "board_view.h"
 #include "files.h"
+#include "parked.h"
 #include "refusals.h"
 
 enum { MESSAGE_MOST = PATH_LIMIT + 3 * WORDS_MOST };
@@ -24,6 +25,7 @@ struct order {
     struct pin_text pins;
     struct pin_text kept; /* the list as a file has it: as it was loaded or saved last */
     struct answer answer;
+    struct parked parked;
     struct judged judged;
     struct finding finding;     /* of the verdict that is shown: the judge's, or else the router's */
     char message[MESSAGE_MOST]; /* what came of the last command, in one line */

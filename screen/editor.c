@@ -73,18 +73,31 @@ enum edit editor_key(struct editor *editor, struct pin_text *pins, int key)
     return key > ' ' && key < K_UP ? EDIT_NO_CHARACTER : EDIT_NONE;
 }
 
-void editor_to_mark(struct editor *editor, const struct finding *finding)
+/* Whether a mark stands before a cell: TOP before BOT, each from the left. */
+static bool stands_before(const struct mark *mark, int row, size_t cell)
 {
-    const struct mark *to = finding->marks;
-    if (finding->mark_count == 0)
-        return;
-    for (size_t i = 0; i < finding->mark_count; i++) {
-        const struct mark *mark = &finding->marks[i];
-        if (mark->row > editor->row || (mark->row == editor->row && mark->first > editor->cell)) {
-            to = mark;
-            break;
-        }
+    return mark->row < row || (mark->row == row && mark->first < cell);
+}
+
+/* The first mark of a list that does not stand before a place, unless `near`, which does not either, is nearer. */
+static const struct mark *nearer(const struct mark *near, const struct mark *marks, size_t count, int row, size_t cell)
+{
+    for (size_t i = 0; i < count; i++)
+        if (!stands_before(&marks[i], row, cell) && (near == NULL || stands_before(&marks[i], near->row, near->first)))
+            near = &marks[i];
+    return near;
+}
+
+void editor_to_mark(struct editor *editor, const struct finding *finding, const struct parked *parked)
+{
+    const struct mark *to = nearer(NULL, finding->marks, finding->mark_count, editor->row, editor->cell + 1);
+    to = nearer(to, parked->marks, parked->count, editor->row, editor->cell + 1);
+    if (to == NULL) {
+        to = nearer(NULL, finding->marks, finding->mark_count, TOP_ROW, 0);
+        to = nearer(to, parked->marks, parked->count, TOP_ROW, 0);
     }
+    if (to == NULL)
+        return;
     editor->row = to->row;
     editor->cell = to->first;
 }

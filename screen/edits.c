@@ -64,6 +64,6 @@ void edit_show_list(struct screen *screen)
 
 void edit_to_mark(struct screen *screen)
 {
-    editor_to_mark(&screen->editor, &screen->order->finding);
+    editor_to_mark(&screen->editor, &screen->order->finding, &screen->order->parked);
     screen->follows_cursor = true;
 }

@@ -19,6 +19,7 @@ static const char help[] =
     "judge FILE         judges a board file against the list\n"
     "help               prints this\n"
     "quit               ends\n"
+    "In the answers p marks a parked pin: its number stands just once, and it gets no copper.\n"
     "The exit status is 1 if any command or list was refused or a board is faulty, else 0.\n";
 
 /* One line of input without its line feed. */
@@ -86,15 +87,23 @@ static bool saved(struct order *order, enum outcome outcome, const char *exists,
     return told(order, number, outcome == OUTCOME_DONE);
 }
 
+/* Tells, of a board that was saved, which pins are parked: the list may not have been shown. */
+static bool saved_board(const struct order *order, bool done)
+{
+    if (done)
+        print_parked(order);
+    return done;
+}
+
 static bool save(struct order *order, const char *path, unsigned long number)
 {
-    return saved(order, order_save_board(order, path, false), "the file exists, and only 'replace' writes over it: ",
-                 path, number);
+    return saved_board(order, saved(order, order_save_board(order, path, false),
+                                    "the file exists, and only 'replace' writes over it: ", path, number));
 }
 
 static bool replace(struct order *order, const char *path, unsigned long number)
 {
-    return told(order, number, order_save_board(order, path, true) == OUTCOME_DONE);
+    return saved_board(order, told(order, number, order_save_board(order, path, true) == OUTCOME_DONE));
 }
 
 static bool save_pins(struct order *order, const char *path, unsigned long number)

@@ -3,30 +3,38 @@
 #include <stdio.h>
 #include <string.h>
 
+enum { PARKED_ACROSS = 100 };
+
 char printable(uint8_t byte)
 {
     return byte >= 0x20 && byte <= 0x7E ? (char)byte : '?';
 }
 
-static void print_row_marks(const struct finding *finding, int row, char sign)
+/* A line of signs at the cells of a row: those of a refusal stand over those of parked pins. */
+static void print_row_marks(const struct order *order, int row, char sign)
 {
     char signs[ROW_LABEL + ROW_LIMIT + 1];
-    size_t end = 0;
+    const struct parked *parked = &order->parked;
+    const struct finding *finding = &order->finding;
+    size_t end = sizeof signs;
     memset(signs, ' ', sizeof signs);
+    for (size_t i = 0; i < parked->count; i++)
+        if (parked->marks[i].row == row)
+            signs[ROW_LABEL + parked->marks[i].last] = 'p';
     for (size_t i = 0; i < finding->mark_count; i++) {
         const struct mark *mark = &finding->marks[i];
-        for (size_t x = mark->first; mark->row == row && x <= mark->last; x++) {
-            signs[ROW_LABEL + x] = sign;
-            end = ROW_LABEL + x + 1 > end ? ROW_LABEL + x + 1 : end;
-        }
+        if (mark->row == row)
+            memset(signs + ROW_LABEL + mark->first, sign, mark->last - mark->first + 1);
     }
+    while (end > 0 && signs[end - 1] == ' ')
+        end--;
     if (end > 0)
         printf("%.*s\n", (int)end, signs);
 }
 
 static void print_rows(const struct order *order)
 {
-    print_row_marks(&order->finding, TOP_ROW, 'v');
+    print_row_marks(order, TOP_ROW, 'v');
     for (int r = 0; r < ROWS; r++) {
         const struct row_text *row = &order->pins.rows[r];
         printf("%s ", row_names[r]);
@@ -34,7 +42,7 @@ static void print_rows(const struct order *order)
             putchar(printable(row->bytes[i]));
         putchar('\n');
     }
-    print_row_marks(&order->finding, BOT_ROW, '^');
+    print_row_marks(order, BOT_ROW, '^');
 }
 
 static void print_cells(const char *gutter, const struct board_cell *cells, size_t count)
@@ -45,8 +53,10 @@ static void print_cells(const char *gutter, const struct board_cell *cells, size
     while (end == 0 && gutter_end > 0 && gutter[gutter_end - 1] == ' ')
         gutter_end--;
     printf("%.*s", (int)gutter_end, gutter);
-    for (size_t i = 0; i < end; i++)
-        putchar(cells[i].marked && cells[i].look != LOOK_PIN ? '#' : cells[i].ascii);
+    for (size_t i = 0; i < end; i++) {
+        bool pin = cells[i].look == LOOK_PIN || cells[i].look == LOOK_PARKED;
+        putchar(cells[i].marked && !pin ? '#' : cells[i].ascii);
+    }
     putchar('\n');
 }
 
@@ -85,6 +95,14 @@ static void print_ring(const struct answer *answer)
     }
 }
 
+void print_parked(const struct order *order)
+{
+    char words[PARKED_WORDS];
+    parked_words(&order->parked, PARKED_ACROSS, words);
+    if (words[0] != '\0')
+        printf("%s\n", words);
+}
+
 bool print_order(const struct order *order)
 {
     char text[MESSAGE_MOST], words[PIECE_WORDS];
@@ -93,6 +111,7 @@ bool print_order(const struct order *order)
     print_rows(order);
     order_summary(order, text);
     printf("%s\n", text);
+    print_parked(order);
     order_remedy(order, text);
     if (text[0] != '\0')
         printf("%s\n", text);

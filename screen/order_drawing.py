@@ -1,6 +1,7 @@
 """What the order screen should draw, made from points of the grid and not as the screen does it."""
 import subprocess
 import sys
+from collections import Counter
 from pathlib import Path
 
 ROOT = Path(__file__).resolve().parent.parent
@@ -23,8 +24,10 @@ def written(rows):
 
 def drawing(rows, board, pitch=None):
     """The lines that a board should be drawn as: the column numbers, then each row of the grid, and between two rows
-    the branches that go on. Where no pitch is given the columns are as narrow as can be."""
+    the branches that go on. A net with one pin has a p before its number. Where no pitch is given the columns are as
+    narrow as can be."""
     width, tracks, pieces = channel.open_board(board)
+    pins_of = Counter(rows[0] + rows[1])
     pitch = pitch or max(3, len(str(max([width] + rows[0] + rows[1]))) + 1)
     trunks, branches, contacts = [{point for piece in pieces if piece[0] == kind for point in channel.points_of(piece)}
                                   for kind in range(3)]
@@ -38,7 +41,9 @@ def drawing(rows, board, pitch=None):
             trunk, branch, contact = (0, c, r) in trunks, (1, c, r) in branches, (0, c, r) in contacts
             edge = "." if r in (0, tracks + 1) else " "
             copper = "o" if contact else "+" if trunk and branch else "-" if trunk else "|" if branch else edge
-            line += (str(pins[c - 1]) if pins[c - 1] else copper).rjust(pitch, "-" if (c - 1, r) in runs else " ")
+            net = pins[c - 1]
+            shown = ("p" if pins_of[net] == 1 else "") + str(net) if net else copper
+            line += shown.rjust(pitch, "-" if (c - 1, r) in runs else " ")
         gutter = "TOP  " if r == tracks + 1 else "BOT  " if r == 0 else f"{r:3}  "
         lines.append(gutter + line)
         if r:

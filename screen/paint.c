@@ -6,7 +6,7 @@
 #include <stdlib.h>
 #include <string.h>
 
-enum { PAIR_NONE, PAIR_CYAN, PAIR_YELLOW, PAIR_GREEN, PAIR_RED };
+enum { PAIR_NONE, PAIR_CYAN, PAIR_YELLOW, PAIR_GREEN, PAIR_RED, PAIR_MAGENTA };
 
 void paint_colours(void)
 {
@@ -19,6 +19,7 @@ void paint_colours(void)
     init_pair(PAIR_YELLOW, COLOR_YELLOW, -1);
     init_pair(PAIR_GREEN, COLOR_GREEN, -1);
     init_pair(PAIR_RED, COLOR_RED, -1);
+    init_pair(PAIR_MAGENTA, COLOR_MAGENTA, -1);
 }
 
 bool paint_has_utf8(void)
@@ -45,7 +46,8 @@ void paint_glyph(int y, int x, wchar_t glyph, enum style style)
         [STYLE_PLAIN] = {A_NORMAL, PAIR_NONE}, [STYLE_DIM] = {A_DIM, PAIR_NONE}, [STYLE_STRONG] = {A_BOLD, PAIR_NONE},
         [STYLE_BAR] = {A_REVERSE, PAIR_NONE}, [STYLE_TRUNK] = {A_NORMAL, PAIR_CYAN},
         [STYLE_BRANCH] = {A_NORMAL, PAIR_YELLOW}, [STYLE_CONTACT] = {A_BOLD, PAIR_NONE},
-        [STYLE_CROSSING] = {A_DIM, PAIR_NONE}, [STYLE_PIN] = {A_BOLD, PAIR_NONE}, [STYLE_GOOD] = {A_BOLD, PAIR_GREEN},
+        [STYLE_CROSSING] = {A_DIM, PAIR_NONE}, [STYLE_PIN] = {A_BOLD, PAIR_NONE},
+        [STYLE_PARKED] = {A_NORMAL, PAIR_MAGENTA}, [STYLE_GOOD] = {A_BOLD, PAIR_GREEN},
         [STYLE_BAD] = {A_BOLD, PAIR_RED}, [STYLE_MARK] = {A_BOLD | A_REVERSE, PAIR_RED},
     };
     const wchar_t text[] = {glyph, L'\0'};

@@ -32,6 +32,12 @@ struct text_place {
     size_t cell;
 };
 
+/* Cells first to last of a row, which hold the number of a column, or for a garbled text one character. */
+struct mark {
+    int row;
+    size_t column, first, last;
+};
+
 /* Where the numbers of a row stand: number k at cells first[k - 1] to last[k - 1]. */
 struct row_numbers {
     size_t count;

@@ -89,21 +89,6 @@ static void find_position(const struct row_numbers *numbers, uint32_t position, 
     mark_number(finding, numbers, row, column);
 }
 
-static void find_lone_pin(const struct pin_text *pins, const struct row_numbers *numbers, uint32_t net,
-                          struct finding *finding)
-{
-    char digits[16];
-    size_t length = (size_t)snprintf(digits, sizeof digits, "%u", net);
-    for (int r = 0; r < ROWS; r++)
-        for (size_t k = 0; k < numbers[r].count && k < NUMBERS_MOST; k++) {
-            size_t first = numbers[r].first[k], last = numbers[r].last[k];
-            if (last - first + 1 == length && memcmp(pins->rows[r].bytes + first, digits, length) == 0) {
-                mark_number(finding, numbers, r, k + 1);
-                snprintf(finding->where, WORDS_MOST, "%s column %zu", row_names[r], k + 1);
-            }
-        }
-}
-
 static void find_ring(const struct row_numbers *numbers, const struct answer *answer, struct finding *finding)
 {
     for (int r = 0; r < ROWS; r++)
@@ -129,7 +114,6 @@ static void find_place(const struct pin_text *pins, const struct answer *answer,
     case 3: find_too_wide(numbers, verdict->place, finding); break;
     case 4: find_uneven(pins, numbers, verdict->place, finding); break;
     case 5: case 11: case 12: find_position(numbers, verdict->place, finding); break;
-    case 6: find_lone_pin(pins, numbers, verdict->place, finding); break;
     case 7: find_ring(numbers, answer, finding); break;
     case 10: snprintf(finding->where, WORDS_MOST, "which is %u wide", answer->width); break;
     default: break;

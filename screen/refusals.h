@@ -10,12 +10,6 @@ enum {
     WORDS_MOST = 256
 };
 
-/* Cells first to last of a row, which hold the number of a column, or for a garbled text one character. */
-struct mark {
-    int row;
-    size_t column, first, last;
-};
-
 struct finding {
     char meaning[WORDS_MOST], remedy[WORDS_MOST]; /* as the table has them, with the place */
     char where[WORDS_MOST];                       /* the place in the rows, or nothing */

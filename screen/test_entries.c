@@ -46,7 +46,7 @@ static void reading(void)
     expect("garbled, empty", cabjirt_read(NULL, 0, top, CABJIRT_ROW, bot, CABJIRT_ROW), 2, 0);
     expect("short row", cabjirt_read((const uint8_t *)"TOP 0\nBOT 0\n", 12, top, 511, bot, CABJIRT_ROW), 1, 512);
     expect("no rows", cabjirt_read((const uint8_t *)"TOP 0\nBOT 0\n", 12, NULL, 0, NULL, 0), 1, 512);
-    expect("lone pin", read_text("TOP 1 0\nBOT 0 0\n"), 6, 1);
+    expect("high net", read_text("TOP 1 0\nBOT 0 512\n"), 5, 4);
     expect_same("rows after a refusal", top, same, sizeof same);
     expect("example A", read_text("TOP 0 1 2 3\nBOT 1 2 0 3\n"), 0, 4);
     expect_same("TOP of A", top, (const uint32_t[]){0, 1, 2, 3}, 4 * sizeof *top);
@@ -66,7 +66,8 @@ static void routing(void)
     expect("bounds, empty", cabjirt_bounds(NULL, 0, NULL, 0), 4, 1);
     expect("short ring", cabjirt_route(top, 4, bot, 4, ring, CABJIRT_RING - 1, board, CABJIRT_BOARD), 1, CABJIRT_RING);
     expect("no ring", cabjirt_route(top, 4, bot, 4, NULL, 0, NULL, 0), 1, CABJIRT_RING);
-    expect("short board", cabjirt_route(top, 4, bot, 4, ring, CABJIRT_RING, board, CABJIRT_BOARD - 1), 1, CABJIRT_BOARD);
+    expect("short board", cabjirt_route(top, 4, bot, 4, ring, CABJIRT_RING, board, CABJIRT_BOARD - 1), 1,
+           CABJIRT_BOARD);
     expect("uneven", cabjirt_route(top, 4, bot, 3, ring, CABJIRT_RING, board, CABJIRT_BOARD), 4, 4);
     expect("tangled", cabjirt_route(over, 2, under, 2, ring, CABJIRT_RING, board, CABJIRT_BOARD), 7, 2);
     expect_same("the ring of C", ring, pairs, sizeof pairs);
@@ -95,6 +96,38 @@ static void judging(void)
     expect("open", cabjirt_judge(top, 4, bot, 4, file, 44, scratch, CABJIRT_SCRATCH), 12, 6);
 }
 
+static uint64_t route_rows(const uint32_t *over, const uint32_t *under, size_t width)
+{
+    return cabjirt_route(over, width, under, width, ring, CABJIRT_RING, board, CABJIRT_BOARD);
+}
+
+static uint64_t judge_file(const uint32_t *over, const uint32_t *under, size_t width, const uint8_t *file,
+                           size_t pieces)
+{
+    return cabjirt_judge(over, width, under, width, file, 4 + 4 * pieces, scratch, CABJIRT_SCRATCH);
+}
+
+/* A pin whose number stands nowhere else gets no copper; to the judge it is a net of its own. */
+static void parking(void)
+{
+    static const uint32_t over[] = {1, 1, 3}, under[] = {2, 0, 0}, ringed[] = {1, 2, 3}, below[] = {2, 1, 0};
+    static const uint8_t bare[] = {0x00, 0x80, 0x00, 0x00};
+    static const uint8_t alone[] = {0x00, 0x80, 0x00, 0x02, 0x40, 0x10, 0x00, 0x01}; /* a branch in column 1 */
+    expect("read L", read_text("TOP 1 0\nBOT 0 0\n"), 0, 2);
+    expect("bounds of L", cabjirt_bounds(top, 2, bot, 2), 0, 0);
+    expect("route L", route_rows(top, bot, 2), 0, 0);
+    expect_same("the file of L", board, bare, sizeof bare);
+    expect("judge L", judge_file(top, bot, 2, board, 0), 0, 0);
+    expect("copper joined to a parked pin alone", judge_file(top, bot, 2, alone, 1), 0, 0);
+    expect("bounds, parked opposite a net", cabjirt_bounds(over, 3, under, 3), 0, 65536 + 1);
+    expect("route, parked opposite a net", route_rows(over, under, 3), 0, 5 * 65536 + 1);
+    expect("judge, parked opposite a net", judge_file(over, under, 3, board, 5), 0, 1);
+    board[10] = 0; /* piece 2, the branch of column 1 in rows 1 to 2, now begins in row 0, at the parked pin */
+    expect("short to a parked pin", judge_file(over, under, 3, board, 5), 11, 4);
+    expect("tangled, one pin parked", route_rows(ringed, below, 3), 7, 2);
+    expect_same("its ring", ring, (const uint32_t[]){1, 1, 2, 2}, 4 * sizeof *ring);
+}
+
 static void blanks(void)
 {
     expect("blank 0", cabjirt_blank(0), 0, 8);
@@ -109,6 +142,7 @@ int main(void)
     reading();
     routing();
     judging();
+    parking();
     blanks();
     printf("C entries: %d passed, %d failed\n", passed, failed);
     return failed != 0;

@@ -14,6 +14,7 @@ sys.dont_write_bytecode = True
 sys.path.insert(0, str(Path(__file__).resolve().parent))
 import cases_build  # noqa: E402
 import cases_files  # noqa: E402
+import cases_parked  # noqa: E402
 import cases_pipe  # noqa: E402
 import cases_typing  # noqa: E402
 import cases_window  # noqa: E402
@@ -22,7 +23,7 @@ import pseudo_terminal  # noqa: E402
 
 def main():
     try:
-        for cases in (cases_build, cases_typing, cases_files, cases_window, cases_pipe):
+        for cases in (cases_build, cases_typing, cases_files, cases_window, cases_pipe, cases_parked):
             with tempfile.TemporaryDirectory() as name:
                 cases.run(Path(name))
     except (pseudo_terminal.Failure, subprocess.TimeoutExpired) as failure:

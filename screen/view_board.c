@@ -49,7 +49,7 @@ static void put_board_cell(int y, int x, const struct board_cell *cell)
     static const enum style styles[] = {
         [LOOK_BLANK] = STYLE_PLAIN, [LOOK_TRUNK] = STYLE_TRUNK, [LOOK_BRANCH] = STYLE_BRANCH,
         [LOOK_CROSSING] = STYLE_CROSSING, [LOOK_CONTACT] = STYLE_CONTACT, [LOOK_PIN] = STYLE_PIN,
-        [LOOK_NO_PIN] = STYLE_DIM, [LOOK_COLUMN] = STYLE_DIM,
+        [LOOK_PARKED] = STYLE_PARKED, [LOOK_NO_PIN] = STYLE_DIM, [LOOK_COLUMN] = STYLE_DIM,
     };
     bool copper = cell->look >= LOOK_TRUNK && cell->look <= LOOK_CONTACT;
     paint_glyph(y, x, copper && paint_has_utf8() ? glyphs[cell->look] : (wchar_t)(unsigned char)cell->ascii,

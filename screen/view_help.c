@@ -16,6 +16,7 @@ static const char *const help[] = {
     "^L redraw   ^Z stop   F10 ^Q or ^C quit",
     "A paste of two lines fills both rows.",
     "In the drawing: o joint, + crossing without a joint.",
+    "p marks a parked pin: its number stands just once, and it gets no copper.",
 };
 
 /* Two lines are the most that an entry takes in the narrowest window. */

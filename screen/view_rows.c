@@ -7,14 +7,13 @@ static void put(const struct screen *screen, int y, size_t x, wchar_t glyph, enu
         paint_glyph(y, GUTTER + (int)(x - screen->scroll_across), glyph, style);
 }
 
-static bool is_marked(const struct finding *finding, int row, size_t cell)
+/* The mark that holds a cell of a row, or NULL. */
+static const struct mark *mark_at(const struct mark *marks, size_t count, int row, size_t cell)
 {
-    for (size_t i = 0; i < finding->mark_count; i++) {
-        const struct mark *mark = &finding->marks[i];
-        if (mark->row == row && cell >= mark->first && cell <= mark->last)
-            return true;
-    }
-    return false;
+    for (size_t i = 0; i < count; i++)
+        if (marks[i].row == row && cell >= marks[i].first && cell <= marks[i].last)
+            return &marks[i];
+    return NULL;
 }
 
 /* An empty list is not refused before anything is typed: it has no marks. */
@@ -25,13 +24,19 @@ static bool has_marks(const struct order *order)
 
 static void put_cell(const struct screen *screen, int row, int y, int marks_y, size_t cell, size_t x)
 {
-    const struct row_text *text = &screen->order->pins.rows[row];
+    const struct order *order = screen->order;
+    const struct row_text *text = &order->pins.rows[row];
+    const struct finding *finding = &order->finding;
+    const struct mark *parked = mark_at(order->parked.marks, order->parked.count, row, cell);
     uint8_t byte = cell < text->length ? text->bytes[cell] : ' ';
-    bool marked = has_marks(screen->order) && is_marked(&screen->order->finding, row, cell);
+    bool marked = has_marks(order) && mark_at(finding->marks, finding->mark_count, row, cell) != NULL;
     bool shows = byte >= 0x20 && byte <= 0x7E;
-    put(screen, y, x, shows ? byte : L'?', marked ? STYLE_MARK : shows ? STYLE_PLAIN : STYLE_BAD);
+    enum style style = parked != NULL ? STYLE_PARKED : shows ? STYLE_PLAIN : STYLE_BAD;
+    put(screen, y, x, shows ? byte : L'?', marked ? STYLE_MARK : style);
     if (marked)
         put(screen, marks_y, x, row == TOP_ROW ? L'v' : L'^', STYLE_BAD);
+    else if (parked != NULL && cell == parked->last)
+        put(screen, marks_y, x, L'p', STYLE_PARKED);
 }
 
 /* Signs beside the cells shown, that a row or its marks go on there. */
@@ -43,20 +48,21 @@ static void put_signs(const struct screen *screen, int y, size_t first, size_t l
         paint_glyph(y, GUTTER + (int)view_cells(), L'>', style);
 }
 
-static void put_mark_signs(const struct screen *screen, int row, int marks_y)
+static void put_mark_signs(const struct screen *screen, const struct mark *marks, size_t count, int row, int marks_y,
+                           enum style style)
 {
-    const struct finding *finding = &screen->order->finding;
     const struct row_text *text = &screen->order->pins.rows[row];
-    for (size_t i = 0; i < finding->mark_count && has_marks(screen->order); i++)
-        if (finding->marks[i].row == row) {
-            size_t x = columns_x(&screen->columns, text, finding->marks[i].first);
-            put_signs(screen, marks_y, x, x, STYLE_BAD);
+    for (size_t i = 0; i < count; i++)
+        if (marks[i].row == row) {
+            size_t x = columns_x(&screen->columns, text, marks[i].first);
+            put_signs(screen, marks_y, x, x, style);
         }
 }
 
 void view_row(const struct screen *screen, int row, int y, int marks_y)
 {
-    const struct row_text *text = &screen->order->pins.rows[row];
+    const struct order *order = screen->order;
+    const struct row_text *text = &order->pins.rows[row];
     const size_t *edge = screen->columns.edge;
     struct word word = row_word_at(text, 0);
     size_t end = screen->scroll_across + view_cells();
@@ -68,7 +74,9 @@ void view_row(const struct screen *screen, int row, int y, int marks_y)
     if (text->length > 0)
         put_signs(screen, y, columns_x(&screen->columns, text, 0), columns_x(&screen->columns, text, text->length - 1),
                   STYLE_DIM);
-    put_mark_signs(screen, row, marks_y);
+    put_mark_signs(screen, order->parked.marks, order->parked.count, row, marks_y, STYLE_PARKED);
+    if (has_marks(order)) /* over those of parked pins */
+        put_mark_signs(screen, order->finding.marks, order->finding.mark_count, row, marks_y, STYLE_BAD);
 }
 
 /* The number of a column at its right. Numbers of more than three digits stand over every other column. */

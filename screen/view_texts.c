@@ -49,26 +49,36 @@ void view_title(const struct screen *screen, const struct board_view *view)
         put_part(screen, view, x);
 }
 
-/* The verdict, broken between words; of a board that is judged also the marked piece, and what to do. An empty list is
- * greeted and not refused. */
-void view_verdict(const struct screen *screen, const struct board_view *view)
+/* The marked piece of a board that is judged and faulty, and what to do. Answers the line after it. */
+static int put_fault(const struct order *order, const struct board_view *view, int y)
 {
     char text[MESSAGE_MOST], words[PIECE_WORDS];
+    board_view_piece_words(view, view->marked_piece, words);
+    y = paint_lines(y, LINE_RULER, 0, words, STYLE_PLAIN);
+    order_remedy(order, text);
+    return paint_lines(y, LINE_RULER, 0, text, STYLE_PLAIN);
+}
+
+/* The verdict, broken between words, and the parked pins, for which a line is kept; but a fault is told first. An empty
+ * list is greeted and not refused. */
+void view_verdict(const struct screen *screen, const struct board_view *view)
+{
+    char text[MESSAGE_MOST], parked[PARKED_WORDS];
     const struct order *order = screen->order;
+    bool refused = order_verdict(order)->refused, faulty = refused && order->judged.shown;
     if (pin_text_empty(&order->pins) && !order->judged.shown) {
         paint_lines(LINE_VERDICT, LINE_RULER, 0,
                     "Type the TOP row's net numbers, Tab, then the BOT row's. F1 shows all keys.",
                     STYLE_STRONG);
         return;
     }
+    int end = order->parked.count > 0 && !faulty ? LINE_RULER - 1 : LINE_RULER;
     order_summary(order, text);
-    int y = paint_lines(LINE_VERDICT, LINE_RULER, 0, text, order_verdict(order)->refused ? STYLE_BAD : STYLE_GOOD);
-    if (view == NULL || !order_verdict(order)->refused)
-        return;
-    board_view_piece_words(view, view->marked_piece, words);
-    y = paint_lines(y, LINE_RULER, 0, words, STYLE_PLAIN);
-    order_remedy(order, text);
-    paint_lines(y, LINE_RULER, 0, text, STYLE_PLAIN);
+    int y = paint_lines(LINE_VERDICT, end, 0, text, refused ? STYLE_BAD : STYLE_GOOD);
+    if (faulty && view != NULL)
+        y = put_fault(order, view, y);
+    parked_words(&order->parked, (size_t)paint_across(), parked);
+    paint_lines(y, LINE_RULER, 0, parked, STYLE_PARKED);
 }
 
 /* What to do about a refusal; and what a pin list is, while it has no board. */
@@ -78,7 +88,7 @@ void view_hints(const struct screen *screen)
         "A pin list has two rows of the same length, of up to 512 columns.",
         "Each number is the net of a pin, 1 to 511, or 0 where there is no pin.",
         "One space parts two numbers.",
-        "Every net has two pins or more.",
+        "A number that stands just once parks its pin, which gets no copper.",
     };
     char text[MESSAGE_MOST];
     const struct order *order = screen->order;

@@ -48,7 +48,6 @@ ROWS = {  # texts that are pin lists by their form
     b"TOP 1\nBOT 1 1\n": "TOP has 1, BOT 2, so TOP is shorter by 1",
     b"TOP 0 0\nBOT 512 0\n": "512 stands at column 1, BOT",
     b"TOP " + b"9" * 50 + b"\nBOT 0\n": "999999999999.. (50 digits) stands at column 1, TOP",
-    b"TOP 0 0\nBOT 0 3\n": "it stands at column 2, BOT",
     b"TOP" + b" 0" * 513 + b"\nBOT 0\n": "TOP has 513 numbers, BOT 1",
     b"TOP 1 2\nBOT 2 1\n": "the ring: net 1 above net 2 in column 1, net 2 above net 1 in column 2",
     b"TOP" + b" 0" * 40000: "more than 65536 bytes",

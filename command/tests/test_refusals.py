@@ -27,7 +27,7 @@ class Table(unittest.TestCase):
         self.table = refusals.read_table()
 
     def test_numbers_and_words(self):
-        self.assertEqual(list(self.table), list(range(answers.HIGHEST + 1)))
+        self.assertEqual(list(self.table), [0, 1, 2, 3, 4, 5, 7, 8, 9, 10, 11, 12, 13, 14])
         self.assertEqual(len({refusal.word for refusal in self.table.values()}), len(self.table))
 
     def test_the_header_for_c_programs(self):
@@ -55,9 +55,25 @@ class Table(unittest.TestCase):
             self.assertEqual(status_of(verdict), f"REFUSED {number} 5: {refusal.word}")
             self.assertNotIn("%p", meaning_of(verdict))
 
+    def test_no_answer_has_the_number_that_is_not_used(self):
+        for number in range(17):
+            ring = b"RING 1 1\n" if number == 7 else b""
+            taken = answers.refusal_of(b"REFUSED %d 1\n" % number + ring)
+            self.assertEqual(taken is not None, number in self.table, number)
+
     def test_a_table_of_another_form(self):
-        for text in ("", "number\tword\tmeaning\tremedy\n1\ta\tb\tc\n", "number\tword\tmeaning\tremedy\n0\ta\tb\n"):
-            with tempfile.NamedTemporaryFile("w", suffix=".tsv") as file:
-                file.write(text)
+        lines = refusals.TABLE.read_text().splitlines(keepends=True)
+        before, seven, after = lines[:7], lines[7], lines[8:]
+        wrong = {
+            "empty": [], "heading alone": lines[:1], "no heading": lines[1:], "cut": lines[:-1],
+            "more": [*lines, "15\ta\tb\tc\n"], "a number left out": before + after,
+            "the number that is not used": [*before, "6\ta\tb\tc\n", seven, *after],
+            "that number for another": [*before, "6\ta\tb\tc\n", *after],
+            "two exchanged": [*before, after[0], seven, *after[1:]],
+            "a text less": [*before, "7\ta\tb\n", *after], "an empty text": [*before, "7\ta\t\tc\n", *after],
+        }
+        for name, changed in wrong.items():
+            with self.subTest(name), tempfile.NamedTemporaryFile("w", suffix=".tsv") as file:
+                file.write("".join(changed))
                 file.flush()
                 self.assertRaises(refusals.BadTable, refusals.read_table, file.name)

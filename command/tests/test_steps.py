@@ -21,6 +21,7 @@ WRONG_JUDGES = {
     "changes the board": "printf x >>board; echo GOOD 2",
     "refuses": "echo REFUSED 11 2",
     "has a refusal of no table": "echo REFUSED 99 1",
+    "has the number that is not used": "echo REFUSED 6 1",
     "has a ring too short": "echo REFUSED 7 2; echo RING 1 1",
 }
 
@@ -52,7 +53,7 @@ class WrongPrograms(Workshop):
         self.refused(self.run_channel("make", "pins", "board"), "the listing program", "status 1")
 
     def test_make_with_a_wrong_listing(self):
-        for script in ("exit 1", "exit 0", "echo BOARD 4 2 8", "cat", "echo REFUSED",
+        for script in ("exit 1", "exit 0", "echo BOARD 4 2 8", "cat", "echo REFUSED", "echo REFUSED 6 1",
                        "echo BOARD 4 3 8; echo BOUND 2 2; echo END 11", f"printf '{LISTED.decode()}more'"):
             with self.subTest(script):
                 self.put("board", OLD)

@@ -19,7 +19,7 @@ class Done:
     """How a run ended, what it wrote, and its lines for people."""
 
     def __init__(self, done):
-        self.status, self.output, self.words = done.returncode, done.stdout, done.stderr.decode()
+        self.status, self.output, self.words = done.returncode, done.stdout, (done.stderr or b"").decode()
 
 
 def copy_command(folder):
