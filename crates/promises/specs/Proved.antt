@@ -15,7 +15,7 @@ use Rattle.channel.specs.Density.{density}
 use Rattle.channel.specs.Constraints.{chain, Step, Tangled, Unconstrained}
 use Rattle.channel.specs.Answers.{Escapes}
 use Rattle.channel.specs.CountLaws.{nets-few}
-use Rattle.channel.specs.SpanLaws.{nets→}
+use Rattle.channel.specs.SpanLaws.{nets→, spanning→}
 use Rattle.channel.specs.ParkedLaws.{parked-no-net, uncounted}
 use Rattle.channel.specs.ShownLaws.{tangled-shown}
 use Rattle.channel.specs.PathLaws.{path-start-spans}
@@ -126,6 +126,11 @@ req04 ch esc =
           parked-no-net ch (r .0) (subst (λ (d : NetRecord). T (isParked ch (d .number .0))) (sym (r .2)) parked)
           (nets→ ch (r .0) (r .1) .isNet);
       no-copper = λ t ps e. parked-bare ch esc t ps (nets-filled ch esc t ps e);
+      no-span = λ n parked m. parked-no-net ch n parked (spanning→ ch n m .0 .isNet);
+      not-above = λ n parked m c. (
+        λ h. parked-no-net ch n parked (h .upper),
+        λ h. parked-no-net ch n parked (h .lower),
+      );
       stays-tangled = tangled-shown ch;
       uncounted = uncounted ch (esc .even);
     }

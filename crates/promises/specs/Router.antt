@@ -9,9 +9,9 @@ use lib.Dec.{T}
 use Rattle.refusal.specs.Trays.{recordTray, ringTray, boardTray}
 use Rattle.grid.specs.declared.Piece.{Piece}
 use Rattle.grid.specs.Pieces.{Layout}
-use Rattle.channel.specs.Channel.{Channel, width, isParked, withoutParked, nets}
+use Rattle.channel.specs.Channel.{Channel, width, isParked, withoutParked, nets, spanning}
 use Rattle.channel.specs.Density.{density}
-use Rattle.channel.specs.Constraints.{chain, Ring, Tangled, Unconstrained}
+use Rattle.channel.specs.Constraints.{Above, chain, Ring, Tangled, Unconstrained}
 use Rattle.channel.specs.Answers.{Escapes}
 use Rattle.channel.specs.Parked.{ParkedBeside}
 use Rattle.wiring.specs.Pins.{Pin, netOf}
@@ -52,6 +52,9 @@ pub record ParkedPromise (ch : Channel) : Type 0 where
   pub no-record : (ps : List Place) → NoneParked ch (records ch ps)
   -- "no copper"
   pub no-copper : (t : ℕ) (ps : List Place) → fill ch ≡ filled t ps → Bare ch (draw ch t ps)
+  -- "no part in spans or the above relation"
+  pub no-span : (n : ℕ) → T (isParked ch n) → List·Memᴰ n (spanning ch) → ⊥
+  pub not-above : (n : ℕ) → T (isParked ch n) → (m c : ℕ) → (Above ch n m c → ⊥) × (Above ch m n c → ⊥)
   -- "Tangled channels are those that stay so with the parked pins removed"
   pub stays-tangled : Tangled ch ↔ Tangled (withoutParked ch)
   -- "Where the owner's promise looks for a column with pins of two different nets, parked pins are not counted"
