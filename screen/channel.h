@@ -10,6 +10,9 @@
  * be NULL where its length is 0. A refusal changes nothing that was lent, except scratch and, under 7, the front of the
  * ring. Buffers must not overlap.
  *
+ * A pin list is a text of two lines, first TOP, then BOT: the word, then one number or more, each behind one space or
+ * more, then a line feed, or a carriage return and a line feed. A number is 0 or has no leading zero; nothing follows.
+ *
  * Rows hold one net number a column, 0 for no pin. Pin positions, where a place is one, are 1 to w for TOP and w + 1 to
  * 2w for BOT.
  *

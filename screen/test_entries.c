@@ -43,11 +43,17 @@ static void reading(void)
     memset(bot, 0xAA, sizeof bot);
     memcpy(same, top, sizeof same);
     expect("garbled", read_text("TOP 01"), 2, 5);
+    expect("garbled, a carriage return alone", read_text("TOP 1\rBOT 1\r"), 2, 6);
+    expect("garbled, spaces before a line end", read_text("TOP 1  \r\nBOT 1\r\n"), 2, 7);
+    expect("garbled, a tab", read_text("TOP\t1\nBOT 1\n"), 2, 3);
     expect("garbled, empty", cabjirt_read(NULL, 0, top, CABJIRT_ROW, bot, CABJIRT_ROW), 2, 0);
     expect("short row", cabjirt_read((const uint8_t *)"TOP 0\nBOT 0\n", 12, top, 511, bot, CABJIRT_ROW), 1, 512);
     expect("no rows", cabjirt_read((const uint8_t *)"TOP 0\nBOT 0\n", 12, NULL, 0, NULL, 0), 1, 512);
     expect("high net", read_text("TOP 1 0\nBOT 0 512\n"), 5, 4);
     expect_same("rows after a refusal", top, same, sizeof same);
+    expect("a padded list", read_text("TOP   3   2   1   0\r\nBOT  3 0 2   1\n"), 0, 4);
+    expect_same("TOP of the padded list", top, (const uint32_t[]){3, 2, 1, 0}, 4 * sizeof *top);
+    expect_same("BOT of the padded list", bot, (const uint32_t[]){3, 0, 2, 1}, 4 * sizeof *bot);
     expect("example A", read_text("TOP 0 1 2 3\nBOT 1 2 0 3\n"), 0, 4);
     expect_same("TOP of A", top, (const uint32_t[]){0, 1, 2, 3}, 4 * sizeof *top);
     expect_same("BOT of A", bot, (const uint32_t[]){1, 2, 0, 3}, 4 * sizeof *bot);
