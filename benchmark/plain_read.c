@@ -8,9 +8,12 @@ struct text {
     size_t length;
 };
 
-/* Reads the number at *at and moves *at behind it; a number over 511 is read as 512. Answers whether there is one. */
+/* Moves *at behind a run of spaces, reads the number there and moves *at behind it; a number over 511 is read as 512.
+ * Answers whether there is one. */
 static bool read_number(const struct text *text, size_t *at, uint32_t *value)
 {
+    while (*at < text->length && text->bytes[*at] == ' ')
+        ++*at;
     size_t next = *at;
     if (next >= text->length)
         return false;
@@ -33,6 +36,18 @@ static bool read_number(const struct text *text, size_t *at, uint32_t *value)
     return true;
 }
 
+/* Reads the line feed that is due behind a carriage return at *at, and moves *at behind it or to the byte that does not
+ * belong. Answers whether the line is whole; *count then gets how many numbers it has. */
+static bool ends_line(const struct text *text, size_t *at, size_t numbers, size_t *count)
+{
+    ++*at;
+    if (*at >= text->length || text->bytes[*at] != '\n')
+        return false;
+    ++*at;
+    *count = numbers;
+    return true;
+}
+
 /* Reads a line that begins at *at and moves *at behind it, or to the byte that does not belong. Answers whether the
  * line is whole; *count gets how many numbers it has, of which the row keeps the first 512. */
 static bool read_line(const struct text *text, size_t *at, const char *word, uint32_t row[PLAIN_COLUMNS], size_t *count)
@@ -52,6 +67,8 @@ static bool read_line(const struct text *text, size_t *at, const char *word, uin
             return false;
         if (text->bytes[*at] == '\n')
             break;
+        if (text->bytes[*at] == '\r')
+            return ends_line(text, at, numbers, count);
         if (text->bytes[*at] != ' ')
             return false;
     }
