@@ -1,5 +1,5 @@
--- 01, "Bench examples (* proved)", and 02, Req 04: A to J come out of the definitions as the paper prints them, and
--- channels with parked pins as Req 04 says, by one computed check.
+-- 01, "Bench examples (* proved)", and 02, Req 01 and Req 04: A to J come out of the definitions as the paper prints
+-- them, padded lists with CR LF as Req 01 says, and channels with parked pins as Req 04 says, by one computed check.
 use Prim.Native.Nat.{ℕ, zero, suc}
 use mathlib.Core.Path.{_≡_, refl}
 use mathlib.Core.List.{List, [], _∷_, _++_, map}
@@ -22,7 +22,7 @@ use Rattle.channel.specs.Density.{spansOver, spansOf, density}
 use Rattle.channel.specs.Constraints.{above, drops, depth, chain}
 use Rattle.channel.specs.Answers.{tooWide, uneven, highNet, rowsRefusal, boundsAnswer, boundsTold}
 use Rattle.wiring.specs.Pins.{columnOf, rowOf, netOf, pinTouches}
-use Rattle.pinlist.specs.Reader.{afterNumber, lineStep, topStep, botStep, step, atEnd, readFrom, readText}
+use Rattle.pinlist.specs.Reader.{afterNumber, firstDigit, lineStep, topStep, botStep, step, atEnd, readFrom, readText}
 use Rattle.pinlist.specs.Answers.{garbledRefusal, channelOf, textChannel, textRefusal}
 use Rattle.leftedge.specs.Items.{isPlaced, trackOf, fits, clearBelow}
 use Rattle.leftedge.specs.Fill.{scan, orElse, fillFrom, fillItems}
@@ -75,6 +75,18 @@ textF = bytes "TOP 0\nBOT 0\n"
 
 abbrev textG : List ℕ
 textG = bytes "TOP 5\nBOT 5\n"
+
+-- 02, Req 01: A as an order screen pads it into columns, its lines ended in two bytes; and with pads and ends that
+-- differ from number to number and from line to line
+abbrev paddedA : List ℕ
+paddedA = bytes "TOP   0   1   2   3\r\nBOT   1   2   0   3\r\n"
+
+abbrev raggedA : List ℕ
+raggedA = bytes "TOP 0  1 2    3\nBOT  1 2 0 3\r\n"
+
+-- both rows of a text, one behind the other
+abbrev rowsOf : List ℕ → List ℕ
+rowsOf text = textChannel text .top ++ textChannel text .bot
 
 -- 02, Req 04: "example L becomes a board with no tracks"
 abbrev textL : List ℕ
@@ -143,6 +155,19 @@ pub starred :
     ∷ same (judgedWith textA (without 8)) (12 ∷ 6 ∷ [])
     ∷ same (judgedWith textA (λ ps. set ps 3 (Branch (column 2) (row 1) (row 3)))) (11 ∷ 3 ∷ [])
     ∷ same (judgedWith textA (λ ps. ps ++ (Trunk (track 2) (column 3) (column 4) ∷ []))) (13 ∷ 12 ∷ [])
+    ∷ same (listingOutput (bytes "TOP 01")) (bytes "REFUSED 2 5\n")
+    ∷ same (rowsOf paddedA) (0 ∷ 1 ∷ 2 ∷ 3 ∷ 1 ∷ 2 ∷ 0 ∷ 3 ∷ [])
+    ∷ same (rowsOf raggedA) (rowsOf textA)
+    ∷ same (listingOutput paddedA) (listingOutput textA)
+    ∷ same (boardOutput raggedA) (boardOutput textA)
+    ∷ same (listingOutput (bytes "TOP 1\r")) (bytes "REFUSED 2 6\n")
+    ∷ same (listingOutput (bytes "TOP 1\rBOT 1\r")) (bytes "REFUSED 2 6\n")
+    ∷ same (listingOutput (bytes "TOP 1\r\r\nBOT 1\n")) (bytes "REFUSED 2 6\n")
+    ∷ same (listingOutput (bytes "TOP 1  \nBOT 1\n")) (bytes "REFUSED 2 7\n")
+    ∷ same (listingOutput (bytes "TOP 1 \r\nBOT 1\r\n")) (bytes "REFUSED 2 6\n")
+    ∷ same (listingOutput (bytes "TOP  01\nBOT 1\n")) (bytes "REFUSED 2 6\n")
+    ∷ same (listingOutput (bytes "TOP\t1\nBOT 1\n")) (bytes "REFUSED 2 3\n")
+    ∷ same (listingOutput (bytes "TOP 1 \t2\nBOT 2 1\n")) (bytes "REFUSED 2 6\n")
     ∷ same (listingOutput textL) (bytes "BOARD 2 0 8\nBOUND 0 0\nEND 0\n")
     ∷ same (boardOutput textL) (0x00 ∷ 0x80 ∷ 0x00 ∷ 0x00 ∷ [])
     ∷ same (judgeOutput textL (boardOutput textL)) (bytes "GOOD 0\n")
@@ -159,7 +184,7 @@ unfolding
     pinCount isNet pinColumns firstColumn lastColumn nets hasSpan spanning
     spansOver spansOf density above drops depth chain
     tooWide uneven highNet rowsRefusal boundsAnswer boundsTold columnOf rowOf netOf pinTouches
-    afterNumber lineStep topStep botStep step atEnd readFrom readText garbledRefusal channelOf textRefusal
+    afterNumber firstDigit lineStep topStep botStep step atEnd readFrom readText garbledRefusal channelOf textRefusal
     isPlaced trackOf fits clearBelow scan orElse fillFrom fillItems firstDrop fromVisit walk ringOf ringNumbers starting
     fillOrder netItems fill recordOf records
     word header fields pieceWord encode wordAt fileWidth fileTracks fileCount fileSpare headerOf fieldsOf wordRight

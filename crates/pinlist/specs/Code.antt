@@ -18,6 +18,7 @@ use Rattle.pinlist.specs.declared.line.LineRead.{LineRead}
 use Rattle.pinlist.specs.declared.line.LineRead.the-variants as line
 use Rattle.pinlist.specs.declared.number.NumberRead.{NumberRead}
 use Rattle.pinlist.specs.declared.number.NumberRead.the-variants as number
+use Rattle.pinlist.specs.declared.number.NumberAt.{NumberAt}
 use Rattle.pinlist.specs.Reader as reader
 use Rattle.pinlist.specs.Reader.{Stand, due, on, closed, stuck, lineStep, readText}
 use Rattle.pinlist.specs.Answers.{readAnswer, topAfter, botAfter}
@@ -44,6 +45,16 @@ numberFrom k (b ∷ bs) =
 abbrev pub numberRead : List ℕ → ℕ → NumberRead
 numberRead text at = numberFrom at (drop at text)
 
+-- the place behind the spaces from a place on
+unfoldable pub spacesEnd : ℕ → List ℕ → ℕ
+spacesEnd k [] = k
+spacesEnd k (b ∷ bs) = let r = spacesEnd (suc k) bs in cond (eqb b 0x20) r k
+
+-- 02, Req 01: "The number reader therefore answers from the end of a run of spaces"
+pub record NumberFound (text : List ℕ) (at : ℕ) (r : NumberAt) : Type 0 where
+  pub from : r .from ≡ spacesEnd at (drop at text)
+  pub number : r .number ≡ numberRead text (r .from)
+
 -- how many bytes of the word stand at the front of the text
 unfoldable pub shared : List ℕ → List ℕ → ℕ
 shared [] text = 0
@@ -60,6 +71,11 @@ lineFrom s ns k [] = broken k
 lineFrom s ns k (b ∷ bs) =
     elim (lineStep s ns b)
     [ on s′ ns′ ↦ lineFrom s′ ns′ (suc k) bs | closed ns′ ↦ lined ns′ (suc k) | stuck ↦ broken k ]
+
+-- behind a carriage return: a line of so many numbers ends with the line feed, or is broken
+unfoldable pub feedRead : ℕ → ℕ → List ℕ → LineRead
+feedRead count k [] = line.Stuck k
+feedRead count k (b ∷ bs) = cond (eqb b 0x0A) (line.Line count (suc k)) (line.Stuck k)
 
 unfoldable pub lineRead : Lined → LineRead
 lineRead (lined ns k) = line.Line (length ns) k

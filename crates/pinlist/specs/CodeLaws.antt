@@ -15,8 +15,11 @@ use Rattle.lists.specs.Lists.{within}
 use Rattle.lists.specs.Tests.{T→true, true→T, fails→false, within→, →within}
 use Rattle.pinlist.specs.declared.number.NumberRead.{NumberRead}
 use Rattle.pinlist.specs.declared.number.NumberRead.the-variants as number
-use Rattle.pinlist.specs.Reader.{Stand, due, zeroRead, digits, LineStep, on, closed, stuck, afterNumber, lineStep}
-use Rattle.pinlist.specs.Code.{kept, digitsBehind, numberFrom, numberRead, shared, Lined, lined, broken, lineFrom}
+use Rattle.pinlist.specs.declared.line.LineRead.the-variants as line
+use Rattle.pinlist.specs.Reader.{Stand, due, zeroRead, digits, returned, LineStep, on, closed, stuck}
+use Rattle.pinlist.specs.Reader.{afterNumber, firstDigit, lineStep}
+use Rattle.pinlist.specs.Code.{kept, digitsBehind, numberFrom, numberRead, spacesEnd, shared, Lined, lined, broken}
+use Rattle.pinlist.specs.Code.{lineFrom, feedRead, lineRead}
 
 -- the test for a byte between two others, by what it tells
 inside-true : (a x b : ℕ) → a ≤ x → x ≤ b → within a x b ≡ true
@@ -214,24 +217,29 @@ digits-tell text ns from v n k (b ∷ bs) e l i q =
               ∙ ap (behind n ns k) (sym q);
         }
 
-zero-on : (ns : List ℕ) (b : ℕ) → eqb b 48 ≡ true → lineStep (due []) ns b ≡ on zeroRead ns
+space-on : (ns : List ℕ) (b : ℕ) → eqb b 32 ≡ true → lineStep (due []) ns b ≡ on (due []) ns
 unfolding lineStep
-zero-on ns b e = rw e
+space-on ns b e = rw e
 
-first-on : (ns : List ℕ) (b : ℕ) → eqb b 48 ≡ false → within 49 b 57 ≡ true
+zero-on : (ns : List ℕ) (b : ℕ) → eqb b 32 ≡ false → eqb b 48 ≡ true → lineStep (due []) ns b ≡ on zeroRead ns
+unfolding lineStep firstDigit
+zero-on ns b s e = rw (s, e)
+
+first-on : (ns : List ℕ) (b : ℕ) → eqb b 32 ≡ false → eqb b 48 ≡ false → within 49 b 57 ≡ true
     → lineStep (due []) ns b ≡ on (digits (b - 48)) ns
-unfolding lineStep
-first-on ns b e h = rw (e, h)
+unfolding lineStep firstDigit
+first-on ns b s e h = rw (s, e, h)
 
-first-stuck : (ns : List ℕ) (b : ℕ) → eqb b 48 ≡ false → within 49 b 57 ≡ false → lineStep (due []) ns b ≡ stuck
-unfolding lineStep
-first-stuck ns b e h = rw (e, h)
+first-stuck : (ns : List ℕ) (b : ℕ) → eqb b 32 ≡ false → eqb b 48 ≡ false → within 49 b 57 ≡ false
+    → lineStep (due []) ns b ≡ stuck
+unfolding lineStep firstDigit
+first-stuck ns b s e h = rw (s, e, h)
 
-number-from : (text ns : List ℕ) (k : ℕ) (bs : List ℕ) → k ≤ length text → drop k text ≡ bs
-    → Tells text ns k (lineFrom (due []) ns k bs) (numberFrom k bs)
-unfolding numberFrom lineFrom
-number-from text ns k [] i q = refl
-number-from text ns k (b ∷ bs) i q = go (eqb b 48) refl (within 49 b 57) refl
+-- the number that is read at a byte other than a space says how the line goes on
+number-from : (text ns : List ℕ) (k b : ℕ) (bs : List ℕ) → eqb b 32 ≡ false → drop k text ≡ b ∷ bs
+    → Tells text ns k (lineFrom (due []) ns k (b ∷ bs)) (numberFrom k (b ∷ bs))
+unfolding numberFrom
+number-from text ns k b bs s q = go (eqb b 48) refl (within 49 b 57) refl
   where
     after : drop (suc k) text ≡ bs
     after = drop-next text k b bs q
@@ -248,22 +256,62 @@ number-from text ns k (b ∷ bs) i q = go (eqb b 48) refl (within 49 b 57) refl
           as-kept = refl;
           later = omega arith;
           inside = inside;
-          goes-on = line-on (due []) zeroRead ns ns b k bs (zero-on ns b t)
+          goes-on = line-on (due []) zeroRead ns ns b k bs (zero-on ns b s t)
               ∙ (zero-behind ns (suc k) bs ∙ ap (behind 0 ns (suc k)) (sym after));
         }
     go false t true v =
         let w = within→ 49 b 57 (true→T (within 49 b 57) v) in
         subst (λ (line : Lined). Tells text ns k line (digitsBehind (b - 48) (suc k) bs))
-        (sym (line-on (due []) (digits (b - 48)) ns ns b k bs (first-on ns b t v)))
+        (sym (line-on (due []) (digits (b - 48)) ns ns b k bs (first-on ns b s t v)))
         (digits-tell text ns k (b - 48) (b - 48) (suc k) bs (omega arith) (omega arith) inside after)
-    go false t false v = line-stuck (due []) ns b k bs (first-stuck ns b t v)
+    go false t false v = line-stuck (due []) ns b k bs (first-stuck ns b s t v)
 
--- the number that is read where a digit is due says how the line goes on
-pub number-tells : (text ns : List ℕ) (k : ℕ) → k ≤ length text
-    → Tells text ns k (lineFrom (due []) ns k (drop k text)) (numberRead text k)
-number-tells text ns k h = number-from text ns k (drop k text) h refl
+-- the spaces from k on are passed, and the number behind them says how the line goes on
+found-from : (text ns : List ℕ) (k : ℕ) (bs : List ℕ) → drop k text ≡ bs
+    → Tells text ns (spacesEnd k bs) (lineFrom (due []) ns k bs) (numberRead text (spacesEnd k bs))
+unfolding spacesEnd numberFrom lineFrom
+found-from text ns k [] q = rw q
+found-from text ns k (b ∷ bs) q = go (eqb b 32) refl (found-from text ns (suc k) bs (drop-next text k b bs q))
+  where
+    go : (t : Bool) → eqb b 32 ≡ t
+        → Tells text ns (spacesEnd (suc k) bs) (lineFrom (due []) ns (suc k) bs) (numberRead text (spacesEnd (suc k) bs))
+        → Tells text ns (cond t (spacesEnd (suc k) bs) k) (lineFrom (due []) ns k (b ∷ bs))
+        (numberRead text (cond t (spacesEnd (suc k) bs) k))
+    go true t more =
+        subst
+        (λ (line : Lined). Tells text ns (spacesEnd (suc k) bs) line (numberRead text (spacesEnd (suc k) bs)))
+        (sym (line-on (due []) (due []) ns ns b k bs (space-on ns b t))) more
+    go false t more = rw q (number-from text ns k b bs t q)
 
--- behind a number: the end of the text, a line feed, a space, or another byte
+pub number-tells : (text ns : List ℕ) (k : ℕ)
+    → Tells text ns (spacesEnd k (drop k text)) (lineFrom (due []) ns k (drop k text))
+    (numberRead text (spacesEnd k (drop k text)))
+number-tells text ns k = found-from text ns k (drop k text) refl
+
+pub spaces-later : (k : ℕ) (bs : List ℕ) → k ≤ spacesEnd k bs
+unfolding spacesEnd
+spaces-later k [] = omega arith
+spaces-later k (b ∷ bs) = go (eqb b 32) (spaces-later (suc k) bs)
+  where
+    go : (t : Bool) → suc k ≤ spacesEnd (suc k) bs → k ≤ cond t (spacesEnd (suc k) bs) k
+    go true h = omega arith
+    go false h = omega arith
+
+-- a run of spaces, from the tests that the code makes of its bytes
+pub spaces-none : (text : List ℕ) (k : ℕ) → length text ≤ k → spacesEnd k (drop k text) ≡ k
+unfolding spacesEnd
+spaces-none text k h = rw (drop-of-length-le text h)
+
+pub spaces-stop : (text : List ℕ) (k : ℕ) → k < length text → (getD text k 0 ≡ 32 → ⊥) → spacesEnd k (drop k text) ≡ k
+unfolding spacesEnd
+spaces-stop text k h e = rw (drop-cons text k 0, ne-eqb (getD text k 0) 32 e)
+
+pub spaces-more : (text : List ℕ) (k : ℕ) → k < length text → getD text k 0 ≡ 32
+    → spacesEnd k (drop k text) ≡ spacesEnd (k + 1) (drop (k + 1) text)
+unfolding spacesEnd
+spaces-more text k h e = rw (add-one, drop-cons text k 0, eq-eqb (getD text k 0) 32 e)
+
+-- behind a number: the end of the text, a line feed, a carriage return, a space, or another byte
 pub behind-end : (n : ℕ) (ns text : List ℕ) (j : ℕ) → length text ≤ j → behind n ns j (drop j text) ≡ broken j
 unfolding behind
 behind-end n ns text j h = rw (drop-of-length-le text h)
@@ -280,10 +328,75 @@ unfolding behind afterNumber
 behind-space n ns text j h e = rw (drop-cons text j 0, eq-eqb (getD text j 0) 32 e, behind)
 
 pub behind-other : (n : ℕ) (ns text : List ℕ) (j : ℕ) → j < length text → (getD text j 0 ≡ 10 → ⊥)
-    → (getD text j 0 ≡ 32 → ⊥) → behind n ns j (drop j text) ≡ broken j
+    → (getD text j 0 ≡ 13 → ⊥) → (getD text j 0 ≡ 32 → ⊥) → behind n ns j (drop j text) ≡ broken j
 unfolding behind afterNumber
-behind-other n ns text j h e f =
-    rw (drop-cons text j 0, ne-eqb (getD text j 0) 32 f, ne-eqb (getD text j 0) 10 e, behind)
+behind-other n ns text j h e f g =
+    rw (
+      drop-cons text j 0,
+      ne-eqb (getD text j 0) 32 g,
+      ne-eqb (getD text j 0) 10 e,
+      ne-eqb (getD text j 0) 13 f,
+      behind,
+    )
+
+pub behind-return : (n : ℕ) (ns text : List ℕ) (j : ℕ) → j < length text → getD text j 0 ≡ 13
+    → behind n ns j (drop j text) ≡ lineFrom returned (ns ++ (n ∷ [])) (suc j) (drop (suc j) text)
+unfolding behind afterNumber
+behind-return n ns text j h e =
+    rw (
+      drop-cons text j 0,
+      ne-eqb (getD text j 0) 32 (λ q. omega arith),
+      ne-eqb (getD text j 0) 10 (λ q. omega arith),
+      eq-eqb (getD text j 0) 13 e,
+      behind,
+    )
+
+-- behind a carriage return: the line as the automaton reads it is what the code answers
+pub returned-read : (ns : List ℕ) (k : ℕ) (bs : List ℕ)
+    → lineRead (lineFrom returned ns k bs) ≡ feedRead (length ns) k bs
+unfolding lineFrom lineStep lineRead feedRead
+returned-read ns k [] = refl
+returned-read ns k (b ∷ bs) = go (eqb b 10)
+  where
+    go : (t : Bool) → lineRead (elim (cond t (closed ns) stuck) [
+      | on s′ ns′ ↦ lineFrom s′ ns′ (suc k) bs
+      | closed ns′ ↦ lined ns′ (suc k)
+      | stuck ↦
+          broken k
+    ]) ≡ cond t (line.Line (length ns) (suc k)) (line.Stuck k)
+    go true = refl
+    go false = refl
+
+-- a line that ends there has just the numbers so far
+pub returned-row : (ns : List ℕ) (k : ℕ) (bs : List ℕ) {row : List ℕ} {j : ℕ} → lineFrom returned ns k bs ≡ lined row j
+    → ns ≡ row
+unfolding lineFrom lineStep
+returned-row ns k [] e = absurd (let z : _≡_ {A = ℕ} 0 1 = cc in omega arith)
+returned-row ns k (b ∷ bs) {row} {j} e = go (eqb b 10) e
+  where
+    go : (t : Bool) → elim (cond t (closed ns) stuck) [
+      | on s′ ns′ ↦ lineFrom s′ ns′ (suc k) bs
+      | closed ns′ ↦ lined ns′ (suc k)
+      | stuck ↦
+          broken k
+    ] ≡ lined row j → ns ≡ row
+    go true q = cc
+    go false q = absurd (let z : _≡_ {A = ℕ} 0 1 = cc in omega arith)
+
+-- the line feed that is due, from the tests that the code makes
+pub feed-none : (text : List ℕ) (count k : ℕ) → length text ≤ k → feedRead count k (drop k text) ≡ line.Stuck k
+unfolding feedRead
+feed-none text count k h = rw (drop-of-length-le text h)
+
+pub feed-missing : (text : List ℕ) (count k : ℕ) → k < length text → (getD text k 0 ≡ 10 → ⊥)
+    → feedRead count k (drop k text) ≡ line.Stuck k
+unfolding feedRead
+feed-missing text count k h e = rw (drop-cons text k 0, ne-eqb (getD text k 0) 10 e)
+
+pub feed-there : (text : List ℕ) (count k : ℕ) → k < length text → getD text k 0 ≡ 10
+    → feedRead count k (drop k text) ≡ line.Line count (k + 1)
+unfolding feedRead
+feed-there text count k h e = rw (add-one, drop-cons text k 0, eq-eqb (getD text k 0) 10 e)
 
 -- a word that stands whole is passed, and any other breaks the line where it ends
 due-on : (d : ℕ) (ds ns : List ℕ) (b : ℕ) → eqb b d ≡ true → lineStep (due (d ∷ ds)) ns b ≡ on (due ds) ns

@@ -1,25 +1,28 @@
--- 01, "Pin list": the form of a text, and the place at which a text that has not the form is garbled.
+-- 01, "Pin list", as 02, Req 01, widens it: the form of a text, and the place at which a text that has not the form is
+-- garbled.
 use Prim.Native.Nat.{ℕ, _≤_}
 use mathlib.Core.Path.{_≡_}
 use mathlib.Core.List.{List, [], _∷_, _++_}
 use lib.ListN.{length, take}
 use Rattle.lists.specs.Bytes.{bytes, decimal}
 
--- "one space (hexadecimal 20)"
-abbrev pub Gap : List ℕ → Type 0
-Gap s = s ≡ 0x20 ∷ []
+-- 02, Req 01: "One or more spaces may now stand before each number" (01: a space is hexadecimal 20)
+pub data Gap : List ℕ → Type 0 where
+  space : Gap (0x20 ∷ [])
+  wider : {gap : List ℕ} → Gap gap → Gap (0x20 ∷ gap)
 
--- "one line feed (0A)"
-abbrev pub LineEnd : List ℕ → Type 0
-LineEnd s = s ≡ 0x0A ∷ []
+-- "one line feed (0A)"; 02, Req 01: "and one carriage return (hexadecimal 0D) before each line feed"
+pub data LineEnd : List ℕ → Type 0 where
+  feed : LineEnd (0x0A ∷ [])
+  return-feed : LineEnd (0x0D ∷ (0x0A ∷ []))
 
--- "one or more of: one space and a number"
+-- "one or more of": a gap and a number
 pub data Numbers : List ℕ → List ℕ → Type 0 where
   one : (gap : List ℕ) (n : ℕ) → Gap gap → Numbers (gap ++ decimal n) (n ∷ [])
   more : (gap : List ℕ) (n : ℕ) {text ns : List ℕ} → Gap gap → Numbers text ns
       → Numbers (gap ++ (decimal n ++ text)) (n ∷ ns)
 
--- "Two lines, TOP then BOT. Each is the word, then one or more of: one space and a number; then one line feed. Nothing
+-- "Two lines, TOP then BOT. Each is the word, then one or more of": a gap and a number; then a line end. "Nothing
 -- follows": the text is a pin list of these two rows
 pub record Form (text top bot : List ℕ) : Type 0 where
   pub topText : List ℕ

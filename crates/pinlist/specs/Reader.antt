@@ -8,12 +8,13 @@ use lib.Dec.{eqb}
 use Rattle.lists.specs.Lists.{within}
 use Rattle.lists.specs.Bytes.{bytes}
 
--- where the reader stands in a line: these bytes are due, and then a digit; or the number 0 was read; or digits with
--- this value
+-- where the reader stands in a line: these bytes are due, the last of them a space, and then a digit or further spaces;
+-- or the number 0 was read; or digits with this value; or a carriage return, and a line feed is due
 pub data Stand : Type 0 where
   due : List ℕ → Stand
   zeroRead : Stand
   digits : ℕ → Stand
+  returned : Stand
 
 -- what a byte does to a line with these numbers: it goes on, it ends, or the byte does not belong
 pub data LineStep : Type 0 where
@@ -21,16 +22,22 @@ pub data LineStep : Type 0 where
   closed : List ℕ → LineStep
   stuck : LineStep
 
--- after a number: a space, and a digit is due; or a line feed
+-- after a number: a space, and another number is due; a line feed; or a carriage return
 unfoldable pub afterNumber : ℕ → List ℕ → ℕ → LineStep
 afterNumber n ns b =
-    cond (eqb b 0x20) (on (due []) (ns ++ (n ∷ []))) (cond (eqb b 0x0A) (closed (ns ++ (n ∷ []))) stuck)
+    cond (eqb b 0x20) (on (due []) (ns ++ (n ∷ [])))
+    (cond (eqb b 0x0A) (closed (ns ++ (n ∷ []))) (cond (eqb b 0x0D) (on returned (ns ++ (n ∷ []))) stuck))
+
+-- where a number is due: its first digit
+unfoldable pub firstDigit : List ℕ → ℕ → LineStep
+firstDigit ns b = cond (eqb b 48) (on zeroRead ns) (cond (within 49 b 57) (on (digits (b - 48)) ns) stuck)
 
 unfoldable pub lineStep : Stand → List ℕ → ℕ → LineStep
-lineStep (due []) ns b = cond (eqb b 48) (on zeroRead ns) (cond (within 49 b 57) (on (digits (b - 48)) ns) stuck)
+lineStep (due []) ns b = cond (eqb b 0x20) (on (due []) ns) (firstDigit ns b)
 lineStep (due (d ∷ ds)) ns b = cond (eqb b d) (on (due ds) ns) stuck
 lineStep zeroRead ns b = afterNumber 0 ns b
 lineStep (digits n) ns b = cond (within 48 b 57) (on (digits (n * 10 + (b - 48))) ns) (afterNumber n ns b)
+lineStep returned ns b = cond (eqb b 0x0A) (closed ns) stuck
 
 -- the line that is read, with the numbers so far; or both are read
 pub data State : Type 0 where

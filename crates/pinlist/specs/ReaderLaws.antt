@@ -63,8 +63,8 @@ lines-grouped word numbers end rest = simp append-assoc
 form→runs : {text top bot : List ℕ} → Form text top bot → Runs start text (ended top bot)
 unfolding bytes
 form→runs {text} {top} {bot} f =
-    let t = line-run (bytes "TOP") (0x20 ∷ []) refl (f .topNumbers) (f .topEnd) in
-    let b = line-run (bytes "BOT") (0x20 ∷ []) refl (f .botNumbers) (f .botEnd) in
+    let t = line-run (bytes "TOP") (f .topNumbers) (f .topEnd) in
+    let b = line-run (bytes "BOT") (f .botNumbers) (f .botEnd) in
     let grouped = lines-grouped (bytes "TOP") (f .topText) (f .end₁) (bytes "BOT" ++ (f .botText ++ f .end₂)) in
     subst (λ (l : List ℕ). Runs start l (ended top bot)) (grouped ∙ sym (f .written))
     (runs-append (top-run t) (bot-run top b))
@@ -73,8 +73,8 @@ runs→form : {text top bot : List ℕ} → Runs start text (ended top bot) → 
 unfolding bytes
 runs→form r =
     let p = parted r in
-    let t = run→line (bytes "TOP") (0x20 ∷ []) refl (p .topRun) in
-    let b = run→line (bytes "BOT") (0x20 ∷ []) refl (p .botRun) in
+    let t = run→line (bytes "TOP") (p .topRun) in
+    let b = run→line (bytes "BOT") (p .botRun) in
     let grouped = lines-grouped (bytes "TOP") (t .numberText) (t .end) (bytes "BOT" ++ (b .numberText ++ b .end)) in
     record {
       topText = t .numberText;

@@ -1,5 +1,5 @@
 -- The numbers of a line, one by one: how far the line is read, and what its row holds then.
-use Prim.Native.Nat.{ℕ, _+_, _≤_, _<_}
+use Prim.Native.Nat.{ℕ, suc, _+_, _≤_, _<_}
 use native.Mathlib.Omega.{arith}
 use native.Mathlib.Numerals.{add-one}
 use mathlib.Core.Path.{_≡_, refl, sym, _∙_, ap, subst}
@@ -11,19 +11,24 @@ use Rattle.lists.specs.Overlays.{stored-next, length-overlay}
 use Rattle.channel.specs.Channel.{widest}
 use Rattle.pinlist.specs.declared.line.LineRead.{LineRead}
 use Rattle.pinlist.specs.declared.line.LineRead.the-variants as line
-use Rattle.pinlist.specs.declared.number.NumberRead.{NumberRead}
+use Rattle.pinlist.specs.declared.number.NumberAt.{NumberAt}
 use Rattle.pinlist.specs.declared.number.NumberRead.the-variants as number
 use Rattle.pinlist.specs.Reader.{due}
-use Rattle.pinlist.specs.Code.{kept, numberRead, Lined, lined, broken, lineFrom, shared, lineRead, LineDone}
+use Rattle.pinlist.specs.Code.{kept, NumberFound, Lined, lined, broken, lineFrom, feedRead, shared, lineRead}
+use Rattle.pinlist.specs.Code.{LineDone}
 use Rattle.pinlist.specs.CodeLaws.{
   Tells,
   Standing,
   behind,
   number-tells,
+  spaces-later,
   behind-end,
   behind-feed,
+  behind-return,
   behind-space,
   behind-other,
+  returned-read,
+  returned-row,
   word-passed,
   word-broken,
   shared-within,
@@ -69,17 +74,26 @@ row-size text from row₀ row at count s e =
     ap length (s .held) ∙ (length-overlay (take widest (map kept (s .numbers))) row₀ (omega arith) ∙ e)
 
 module _ (text : List ℕ) (from : ℕ) (row₀ : List ℕ) where
-  standing : (row : List ℕ) (at count v next : ℕ) (s : SoFar text from row₀ row at count) {r : NumberRead}
-      → r ≡ numberRead text at → r ≡ number.Number v next
-      → Standing text (s .numbers) at (lineFrom (due []) (s .numbers) at (drop at text)) v next
-  standing row at count v next s a b =
-      subst (Tells text (s .numbers) at (lineFrom (due []) (s .numbers) at (drop at text))) (sym a ∙ b)
-      (number-tells text (s .numbers) at (s .inside))
+  -- what the number reader finds at `at` says how the line goes on
+  told : (row : List ℕ) (at count : ℕ) (s : SoFar text from row₀ row at count) {r : NumberAt} → NumberFound text at r
+      → Tells text (s .numbers) (r .from) (lineFrom (due []) (s .numbers) at (drop at text)) (r .number)
+  told row at count s f = rw (f .number, f .from) (number-tells text (s .numbers) at)
+
+  standing : (row : List ℕ) (at count v next : ℕ) (s : SoFar text from row₀ row at count) {r : NumberAt}
+      → NumberFound text at r → r .number ≡ number.Number v next
+      → Standing text (s .numbers) (r .from) (lineFrom (due []) (s .numbers) at (drop at text)) v next
+  standing row at count v next s {r} f e =
+      subst (Tells text (s .numbers) (r .from) (lineFrom (due []) (s .numbers) at (drop at text))) e
+      (told row at count s f)
+
+  found-later : (at : ℕ) {r : NumberAt} → NumberFound text at r → at ≤ r .from
+  found-later at f = rw (f .from) (spaces-later at (drop at text))
 
   extended : (row row′ : List ℕ) (at count v next : ℕ) (s : SoFar text from row₀ row at count) → length row₀ ≡ widest
-      → row′ ≡ set row count v → Standing text (s .numbers) at (lineFrom (due []) (s .numbers) at (drop at text)) v next
+      → row′ ≡ set row count v → {begins : ℕ} → at ≤ begins
+      → Standing text (s .numbers) begins (lineFrom (due []) (s .numbers) at (drop at text)) v next
       → Behind text from row₀ row′ next (count + 1)
-  extended row row′ at count v next s e q t =
+  extended row row′ at count v next s e q b t =
       record {
         before = s .numbers;
         number = t .number;
@@ -90,16 +104,19 @@ module _ (text : List ℕ) (from : ℕ) (row₀ : List ℕ) where
         few = let h = s .few in let l = t .later in omega arith;
       }
 
-  -- what is read at `at` is the next number, which goes into its place of the row
+  -- what is found at `at` is the next number, which goes into its place of the row
   pub number-read : (row row′ : List ℕ) (at count v next : ℕ) → SoFar text from row₀ row at count → length row₀ ≡ widest
-      → row′ ≡ set row count v → {r : NumberRead} → r ≡ numberRead text at → r ≡ number.Number v next
+      → row′ ≡ set row count v → {r : NumberAt} → NumberFound text at r → r .number ≡ number.Number v next
       → Behind text from row₀ row′ next (count + 1)
-  number-read row row′ at count v next s e q a b =
-      extended row row′ at count v next s e q (standing row at count v next s a b)
+  number-read row row′ at count v next s e q f g =
+      extended row row′ at count v next s e q (found-later at f) (standing row at count v next s f g)
 
-  pub number-later : (row : List ℕ) (at count v next : ℕ) → SoFar text from row₀ row at count → {r : NumberRead}
-      → r ≡ numberRead text at → r ≡ number.Number v next → at < next
-  number-later row at count v next s a b = standing row at count v next s a b .later
+  pub number-later : (row : List ℕ) (at count v next : ℕ) → SoFar text from row₀ row at count → {r : NumberAt}
+      → NumberFound text at r → r .number ≡ number.Number v next → at < next
+  number-later row at count v next s f g =
+      let h = found-later at f in
+      let l = standing row at count v next s f g .later in
+      omega arith
 
   -- the ways in which a line ends
   stuck-done : (row : List ℕ) (k : ℕ) → lineFrom (due []) [] from (drop from text) ≡ broken k
@@ -107,20 +124,23 @@ module _ (text : List ℕ) (from : ℕ) (row₀ : List ℕ) where
   unfolding lineRead
   stuck-done row k e = record { answer = rw e; held = λ ns j q. absurd (let z : _≡_ {A = ℕ} 0 1 = cc in omega arith) }
 
-  pub no-number : (row : List ℕ) (at count : ℕ) → SoFar text from row₀ row at count → {r : NumberRead}
-      → r ≡ numberRead text at → r ≡ number.Missing → LineDone [] text from row₀ (line.Stuck at) row
-  no-number row at count s a b =
-      stuck-done row at
-      (s .goes-on ∙ subst (Tells text (s .numbers) at (lineFrom (due []) (s .numbers) at (drop at text))) (sym a ∙ b)
-      (number-tells text (s .numbers) at (s .inside)))
+  pub no-number : (row : List ℕ) (at count : ℕ) → SoFar text from row₀ row at count → {r : NumberAt}
+      → NumberFound text at r → r .number ≡ number.Missing → LineDone [] text from row₀ (line.Stuck (r .from)) row
+  no-number row at count s {r} f e =
+      stuck-done row (r .from)
+      (s .goes-on ∙ subst
+      (Tells text (s .numbers) (r .from) (lineFrom (due []) (s .numbers) at (drop at text))) e
+      (told row at count s f))
 
   pub cut-off : (row : List ℕ) (at count : ℕ) → Behind text from row₀ row at count → length text ≤ at
       → LineDone [] text from row₀ (line.Stuck at) row
   cut-off row at count b h = stuck-done row at (b .goes-on ∙ behind-end (b .number) (b .before) text at h)
 
   pub other-byte : (row : List ℕ) (at count : ℕ) → Behind text from row₀ row at count → at < length text
-      → (getD text at 0 ≡ 10 → ⊥) → (getD text at 0 ≡ 32 → ⊥) → LineDone [] text from row₀ (line.Stuck at) row
-  other-byte row at count b h e f = stuck-done row at (b .goes-on ∙ behind-other (b .number) (b .before) text at h e f)
+      → (getD text at 0 ≡ 10 → ⊥) → (getD text at 0 ≡ 13 → ⊥) → (getD text at 0 ≡ 32 → ⊥)
+      → LineDone [] text from row₀ (line.Stuck at) row
+  other-byte row at count b h e f g =
+      stuck-done row at (b .goes-on ∙ behind-other (b .number) (b .before) text at h e f g)
 
   pub line-feed : (row : List ℕ) (at count : ℕ) → Behind text from row₀ row at count → at < length text
       → getD text at 0 ≡ 10 → LineDone [] text from row₀ (line.Line count (at + 1)) row
@@ -132,6 +152,20 @@ module _ (text : List ℕ) (from : ℕ) (row₀ : List ℕ) where
         held = λ ns j q.
             let same : b .before ++ (b .number ∷ []) ≡ ns = cc in
             subst (λ (l : List ℕ). Held l row₀ row) same (b .held);
+      }
+
+  -- a carriage return, and what is answered of the byte behind it
+  pub carriage-return : (row : List ℕ) (at count : ℕ) → Behind text from row₀ row at count → at < length text
+      → getD text at 0 ≡ 13 → {r : LineRead} → r ≡ feedRead count (at + 1) (drop (at + 1) text)
+      → LineDone [] text from row₀ r row
+  carriage-return row at count b h e q =
+      let all = b .before ++ (b .number ∷ []) in
+      let goes = b .goes-on ∙ behind-return (b .number) (b .before) text at h e in
+      record {
+        answer = q ∙ rw (goes, add-one, b .counted) (sym (returned-read all (suc at) (drop (suc at) text)));
+        held = λ ns j p.
+            subst (λ (l : List ℕ). Held l row₀ row)
+            (returned-row all (suc at) (drop (suc at) text) (sym goes ∙ p)) (b .held);
       }
 
   -- a space, and the line goes on

@@ -8,12 +8,13 @@ use mathlib.Core.Bool.{Bool, true, false, cond}
 use mathlib.Core.Option.{none, some}
 use mathlib.Core.Logic.{_⊎_, inl, inr, ⊎-elim}
 use lib.ListN.{length, take}
-use lib.Dec.{T, eqb, eqb→eq, eqb-refl}
+use lib.Dec.{T, eqb, eqb→eq}
+use borrow.Author.Tests.{eq-eqb, ne-eqb}
 use Rattle.lists.specs.Lists.{within}
 use Rattle.lists.specs.Bytes.{bytes}
 use Rattle.lists.specs.Tests.{within→, →within}
-use Rattle.pinlist.specs.Form.{Gap, LineEnd}
-use Rattle.pinlist.specs.Reader.{Stand, due, zeroRead, digits, LineStep, on, closed, stuck, afterNumber, lineStep}
+use Rattle.pinlist.specs.Reader.{Stand, due, zeroRead, digits, returned, LineStep, on, closed, stuck}
+use Rattle.pinlist.specs.Reader.{afterNumber, firstDigit, lineStep}
 use Rattle.pinlist.specs.Reader.{State, inTop, inBot, ended, topStep, botStep, step, rows, garbled, atEnd}
 use Rattle.pinlist.specs.Reader.{readFrom}
 
@@ -25,60 +26,49 @@ pub data Behind : Stand → ℕ → Type 0 where
 -- a byte that belongs, and what it does
 pub data Takes : Stand → List ℕ → ℕ → LineStep → Type 0 where
   the-due : {b d : ℕ} {ds ns : List ℕ} → b ≡ d → Takes (due (d ∷ ds)) ns b (on (due ds) ns)
+  further-space : {b : ℕ} {ns : List ℕ} → b ≡ 0x20 → Takes (due []) ns b (on (due []) ns)
   the-zero : {b : ℕ} {ns : List ℕ} → b ≡ 48 → Takes (due []) ns b (on zeroRead ns)
   first-digit : {b d : ℕ} {ns : List ℕ} → b ≡ 48 + d → 1 ≤ d → d < 10 → Takes (due []) ns b (on (digits d) ns)
   next-digit : {b d m : ℕ} {ns : List ℕ} → b ≡ 48 + d → d < 10 → Takes (digits m) ns b (on (digits (m * 10 + d)) ns)
-  gap : {s : Stand} {b n : ℕ} {ns : List ℕ} → Behind s n → Gap (b ∷ []) → Takes s ns b (on (due []) (ns ++ (n ∷ [])))
-  line-end : {s : Stand} {b n : ℕ} {ns : List ℕ} → Behind s n → LineEnd (b ∷ [])
-      → Takes s ns b (closed (ns ++ (n ∷ [])))
+  first-space : {s : Stand} {b n : ℕ} {ns : List ℕ} → Behind s n → b ≡ 0x20
+      → Takes s ns b (on (due []) (ns ++ (n ∷ [])))
+  line-feed : {s : Stand} {b n : ℕ} {ns : List ℕ} → Behind s n → b ≡ 0x0A → Takes s ns b (closed (ns ++ (n ∷ [])))
+  carriage-return : {s : Stand} {b n : ℕ} {ns : List ℕ} → Behind s n → b ≡ 0x0D
+      → Takes s ns b (on returned (ns ++ (n ∷ [])))
+  feed-due : {b : ℕ} {ns : List ℕ} → b ≡ 0x0A → Takes returned ns b (closed ns)
 
 by-test : {A : Type 0} (P : A → Type 0) (t : Bool) {x y : A} → (T t → P x) → ((T t → ⊥) → P y) → P (cond t x y)
 by-test P true f g = f tt
 by-test P false f g = g (λ h. h)
 
-byte : {a b : ℕ} → (a ∷ []) ≡ (b ∷ []) → a ≡ b
-byte e = cc
-
-passed : (b c : ℕ) → b ≡ c → T (eqb b c)
-passed b c e = subst (λ (k : ℕ). T (eqb b k)) e (eqb-refl b)
-
-behind-gap : (b n : ℕ) (ns : List ℕ) → Gap (b ∷ []) → afterNumber n ns b ≡ on (due []) (ns ++ (n ∷ []))
-unfolding afterNumber
-behind-gap b n ns e =
-    by-test (λ o. o ≡ on (due []) (ns ++ (n ∷ []))) (eqb b 0x20) (λ t. refl) (λ f. absurd (f (passed b 0x20 (byte e))))
-
-behind-end : (b n : ℕ) (ns : List ℕ) → LineEnd (b ∷ []) → afterNumber n ns b ≡ closed (ns ++ (n ∷ []))
-unfolding afterNumber
-behind-end b n ns e =
-    let q : b ≡ 0x0A = byte e in
-    by-test (λ o. o ≡ closed (ns ++ (n ∷ []))) (eqb b 0x20) (λ t. let z = eqb→eq b 0x20 t in absurd (omega arith))
-    (λ f. by-test (λ o. o ≡ closed (ns ++ (n ∷ []))) (eqb b 0x0A) (λ t. refl) (λ g. absurd (g (passed b 0x0A q))))
-
-no-digit : (b : ℕ) (x y : LineStep) → b < 48 → cond (within 48 b 57) x y ≡ y
-no-digit b x y h =
-    by-test (λ o. o ≡ y) (within 48 b 57) (λ t. let w = within→ 48 b 57 t in absurd (omega arith)) (λ f. refl)
+-- behind a number a byte below the digits does what afterNumber says
+behind-step : {s : Stand} {n : ℕ} (ns : List ℕ) (b : ℕ) → Behind s n → b < 48 → lineStep s ns b ≡ afterNumber n ns b
+unfolding lineStep
+behind-step ns b behind-zero h = refl
+behind-step ns b (behind-digits {n}) h =
+    by-test (λ o. o ≡ afterNumber n ns b) (within 48 b 57) (λ t. let w = within→ 48 b 57 t in absurd (omega arith))
+    (λ f. refl)
 
 takes→step : {s : Stand} {ns : List ℕ} {b : ℕ} {o : LineStep} → Takes s ns b o → lineStep s ns b ≡ o
-unfolding lineStep
-takes→step (the-due {b} {d} {ds} {ns} e) =
-    by-test (λ o. o ≡ on (due ds) ns) (eqb b d) (λ t. refl) (λ f. absurd (f (passed b d e)))
-takes→step (the-zero {b} {ns} e) =
-    by-test (λ o. o ≡ on zeroRead ns) (eqb b 48) (λ t. refl) (λ f. absurd (f (passed b 48 e)))
+unfolding lineStep firstDigit afterNumber
+takes→step (the-due {b} {d} e) = rw (eq-eqb b d e)
+takes→step (further-space {b} e) = rw (eq-eqb b 0x20 e)
+takes→step (the-zero {b} e) = rw (ne-eqb b 0x20 (λ q. omega arith), eq-eqb b 48 e)
 takes→step (first-digit {b} {d} {ns} e l h) =
-    let P : LineStep → Type 0 = λ o. o ≡ on (digits d) ns in
-    by-test P (eqb b 48) (λ t. let z = eqb→eq b 48 t in absurd (omega arith))
-    (λ f. by-test P (within 49 b 57) (λ t. ap (λ (k : ℕ). on (digits k) ns) (omega arith))
+    rw (ne-eqb b 0x20 (λ q. omega arith), ne-eqb b 48 (λ q. omega arith))
+    (by-test (λ o. o ≡ on (digits d) ns) (within 49 b 57) (λ t. ap (λ (k : ℕ). on (digits k) ns) (omega arith))
     (λ g. absurd (g (→within 49 b 57 (omega arith) (omega arith)))))
 takes→step (next-digit {b} {d} {m} {ns} e h) =
     by-test (λ o. o ≡ on (digits (m * 10 + d)) ns) (within 48 b 57)
     (λ t. ap (λ (k : ℕ). on (digits (m * 10 + k)) ns) (omega arith))
     (λ g. absurd (g (→within 48 b 57 (omega arith) (omega arith))))
-takes→step (gap {b} {ns} behind-zero e) = behind-gap b 0 ns e
-takes→step (gap {b} {ns} (behind-digits {n}) e) =
-    let q : b ≡ 0x20 = byte e in no-digit b _ _ (omega arith) ∙ behind-gap b n ns e
-takes→step (line-end {b} {ns} behind-zero e) = behind-end b 0 ns e
-takes→step (line-end {b} {ns} (behind-digits {n}) e) =
-    let q : b ≡ 0x0A = byte e in no-digit b _ _ (omega arith) ∙ behind-end b n ns e
+takes→step (first-space {b} {ns} k e) = behind-step ns b k (omega arith) ∙ rw (eq-eqb b 0x20 e)
+takes→step (line-feed {b} {ns} k e) =
+    behind-step ns b k (omega arith) ∙ rw (ne-eqb b 0x20 (λ q. omega arith), eq-eqb b 0x0A e)
+takes→step (carriage-return {b} {ns} k e) =
+    behind-step ns b k (omega arith)
+    ∙ rw (ne-eqb b 0x20 (λ q. omega arith), ne-eqb b 0x0A (λ q. omega arith), eq-eqb b 0x0D e)
+takes→step (feed-due {b} e) = rw (eq-eqb b 0x0A e)
 
 -- a byte belongs, or the line is stuck at it
 data Outcome (s : Stand) (ns : List ℕ) (b : ℕ) : LineStep → Type 0 where
@@ -89,17 +79,18 @@ after-number : {s : Stand} {n : ℕ} (ns : List ℕ) (b : ℕ) → Behind s n �
 unfolding afterNumber
 after-number {s} {n} ns b h =
     let P : LineStep → Type 0 = λ o. Outcome s ns b o in
-    by-test P (eqb b 0x20) (λ t. belongs (gap h (ap (λ (k : ℕ). k ∷ []) (eqb→eq b 0x20 t))))
-    (λ f. by-test P (eqb b 0x0A) (λ t. belongs (line-end h (ap (λ (k : ℕ). k ∷ []) (eqb→eq b 0x0A t))))
-    (λ g. refused))
+    by-test P (eqb b 0x20) (λ t. belongs (first-space h (eqb→eq b 0x20 t)))
+    (λ f. by-test P (eqb b 0x0A) (λ t. belongs (line-feed h (eqb→eq b 0x0A t)))
+    (λ g. by-test P (eqb b 0x0D) (λ t. belongs (carriage-return h (eqb→eq b 0x0D t))) (λ k. refused)))
 
 outcome : (s : Stand) (ns : List ℕ) (b : ℕ) → Outcome s ns b (lineStep s ns b)
-unfolding lineStep
+unfolding lineStep firstDigit
 outcome (due []) ns b =
     let P : LineStep → Type 0 = λ o. Outcome (due []) ns b o in
-    by-test P (eqb b 48) (λ t. belongs (the-zero (eqb→eq b 48 t)))
+    by-test P (eqb b 0x20) (λ t. belongs (further-space (eqb→eq b 0x20 t)))
+    (λ e. by-test P (eqb b 48) (λ t. belongs (the-zero (eqb→eq b 48 t)))
     (λ f. by-test P (within 49 b 57) (λ t. let w = within→ 49 b 57 t in
-    belongs (first-digit (omega arith) (omega arith) (omega arith))) (λ g. refused))
+    belongs (first-digit (omega arith) (omega arith) (omega arith))) (λ g. refused)))
 outcome (due (d ∷ ds)) ns b =
     by-test (λ o. Outcome (due (d ∷ ds)) ns b o) (eqb b d) (λ t. belongs (the-due (eqb→eq b d t))) (λ f. refused)
 outcome zeroRead ns b = after-number ns b behind-zero
@@ -107,6 +98,8 @@ outcome (digits m) ns b =
     by-test (λ o. Outcome (digits m) ns b o) (within 48 b 57)
     (λ t. let w = within→ 48 b 57 t in belongs (next-digit (omega arith) (omega arith)))
     (λ f. after-number ns b behind-digits)
+outcome returned ns b =
+    by-test (λ o. Outcome returned ns b o) (eqb b 0x0A) (λ t. belongs (feed-due (eqb→eq b 0x0A t))) (λ f. refused)
 
 -- the same for both lines
 pub data Steps : State → ℕ → State → Type 0 where

@@ -1,10 +1,10 @@
-// A line of a pin list: its word, then a space and a number one or more times, then a line feed.
+// A line of a pin list: its word, then spaces and a number one or more times, then a line end.
 ghost use mathlib.Core.Path.{_≡_};
 ghost use Prim.Native.Nat.{_+_, _≤_};
 ghost use mathlib.Core.List.{[]};
 ghost use lib.ListN.{length, drop, set};
 ghost use Rattle.channel.specs.Channel.{widest};
-ghost use Rattle.pinlist.specs.Code.{shared, LineDone};
+ghost use Rattle.pinlist.specs.Code.{shared, feedRead, LineDone};
 use crate::number::NumberRead;
 use crate::number::read_number;
 use grid::WIDEST;
@@ -44,7 +44,23 @@ fn keep_number(row: &mut [u32; WIDEST], place: usize, value: u32)
     }
 }
 
-// Reads the numbers of a line into a row, from the place where the first digit is due.
+// Ends a line of so many numbers behind a carriage return: a line feed is due at `at`.
+fn end_line(text: &[u8], at: usize, count: usize) -> LineRead
+    ensures { λ r. ⌜ r ≡ feedRead count at (drop at (now (text .entry))) ⌝ }
+{
+    if text.len() <= at {
+        return LineRead::Stuck(at);
+    }
+    if text[at] != b'\n' {
+        return LineRead::Stuck(at);
+    }
+    LineRead::Line {
+        count,
+        next: at + 1,
+    }
+}
+
+// Reads the numbers of a line into a row, from the place behind the first space.
 fn read_numbers(text: &[u8], from: usize, row: &mut [u32; WIDEST]) -> LineRead
     requires { ⌜ (from ≤ length (now text)) × (length (now row) ≡ widest) ⌝ }
     ensures { λ r. ⌜ LineDone [] (now (text .entry)) from (now (row .entry)) r (now (row .exit)) ⌝ }
@@ -52,8 +68,10 @@ fn read_numbers(text: &[u8], from: usize, row: &mut [u32; WIDEST]) -> LineRead
     let mut at = from;
     let mut count: usize = 0;
     loop {
-        let NumberRead::Number { value, next } = read_number(text, at) else {
-            return LineRead::Stuck(at);
+        let found = read_number(text, at);
+        let number = found.number;
+        let NumberRead::Number { value, next } = number else {
+            return LineRead::Stuck(found.from);
         };
         keep_number(row, count, value);
         count += 1;
@@ -66,6 +84,9 @@ fn read_numbers(text: &[u8], from: usize, row: &mut [u32; WIDEST]) -> LineRead
                 count,
                 next: next + 1,
             };
+        }
+        if b == b'\r' {
+            return end_line(text, next + 1, count);
         }
         if b != b' ' {
             return LineRead::Stuck(next);

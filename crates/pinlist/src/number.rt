@@ -1,19 +1,49 @@
-// A number of a pin list.
+// A number of a pin list, behind the spaces that stand before it.
 ghost use mathlib.Core.Path.{_≡_};
 ghost use Prim.Native.Nat.{suc, _+_, _-_, _*_, _≤_};
+ghost use lib.ListN.{drop};
 ghost use Rattle.channel.specs.Channel.{highestNet};
-ghost use Rattle.pinlist.specs.Code.{kept, numberRead};
+ghost use Rattle.pinlist.specs.Code.{kept, spacesEnd, numberRead, NumberFound};
 use grid::HIGHEST_NET;
 
-// What stands at a place after a space.
+// What stands at a place where a number is due.
 pub enum NumberRead {
     // a number, 512 where it is over 511, and the place behind it
     Number { value: u32, next: usize },
     Missing,
 }
 
+// What the number reader answers: the end of a run of spaces, and what stands there.
+pub struct NumberAt {
+    pub from: usize,
+    pub number: NumberRead,
+}
+
+// Reads the number behind the run of spaces, of none or more, that begins at byte `at`.
+pub fn read_number(text: &[u8], at: usize) -> NumberAt
+    ensures { λ r. ⌜ NumberFound (now (text .entry)) at r ⌝ }
+{
+    let from = spaces_end(text, at);
+    let number = number_at(text, from);
+    NumberAt { from, number }
+}
+
+// The place behind the run of spaces that begins at byte `at`.
+fn spaces_end(text: &[u8], at: usize) -> usize
+    ensures { λ r. ⌜ r ≡ spacesEnd at (drop at (now (text .entry))) ⌝ }
+{
+    let mut end = at;
+    while end < text.len() {
+        if text[end] != b' ' {
+            return end;
+        }
+        end += 1;
+    }
+    end
+}
+
 // Reads the number that begins at byte `at`: 0, or digits with no leading zero, as many as there are.
-pub fn read_number(text: &[u8], at: usize) -> NumberRead
+fn number_at(text: &[u8], at: usize) -> NumberRead
     ensures { λ r. ⌜ r ≡ numberRead (now (text .entry)) at ⌝ }
 {
     if text.len() <= at {

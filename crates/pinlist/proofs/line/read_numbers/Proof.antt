@@ -7,7 +7,7 @@ use borrow.Author.Needs.{needs}
 use denote.Ref.{now}
 use lib.ListN.{length}
 use Rattle.pinlist.specs.RowLaws.{SoFar, Behind, none-yet, row-size, number-read, number-later, no-number}
-use Rattle.pinlist.specs.RowLaws.{cut-off, other-byte, line-feed, space}
+use Rattle.pinlist.specs.RowLaws.{cut-off, other-byte, line-feed, carriage-return, space}
 use Rattle.pinlist.proofs.line.read_numbers.Statement.{statement}
 use Rattle.pinlist.proofs.line.read_numbers.Tie as tie
 
@@ -22,7 +22,7 @@ abbrev Kept : tie.After-keep-number Inv-loop μ-loop → Type 0
 Kept c =
     let a = c .before .before .before .before .before .before .before .before .args in
     Behind (now (a .text)) (a .from) (now (a .row)) (c .keep-number .last .0)
-    (c .before .before .before .value .given .0 .1 .0)
+    (c .before .before .before .number .given .0 .1 .0)
     (c .before .before .before .before .before .before .loop .count + 1)
 
 number-kept : (c : tie.After-keep-number Inv-loop μ-loop) → Kept c
@@ -30,7 +30,7 @@ number-kept c =
     let turn = c .before .before .before .before .before in
     let loop = turn .before .loop in
     number-read _ _ _ (loop .row) _ (loop .at) (loop .count) _ _ (loop .inv) (turn .before .before .before .pre .1)
-    (c .keep-number .ensures) (turn .read-number .ensures) (c .before .before .before .value .given .1)
+    (c .keep-number .ensures) (turn .read-number .ensures) (c .before .before .before .number .given .1)
 
 loop-holds : tie.Need-loop-holds Inv-loop μ-loop
 loop-holds c = none-yet _ _ _ (c .before .pre .0)
@@ -61,26 +61,33 @@ returns-3 c =
 
 returns-4 : tie.Need-returns-4 Inv-loop μ-loop
 returns-4 c =
-    other-byte _ _ _ _ _ _ (number-kept (c .before .before .before .before)) (c .before .before .before .if1 .left)
-    (c .before .if2 .left) (c .if3 .taken)
+    let read = c .before .before in
+    carriage-return _ _ _ _ _ _ (number-kept (read .before .before .before)) (read .before .before .if1 .left)
+    (c .before .if3 .taken) (c .end-line .ensures)
+
+returns-5 : tie.Need-returns-5 Inv-loop μ-loop
+returns-5 c =
+    let read = c .before .before in
+    other-byte _ _ _ _ _ _ (number-kept (read .before .before .before)) (read .before .before .if1 .left)
+    (read .if2 .left) (c .before .if3 .left) (c .if4 .taken)
 
 loop-less : tie.Need-loop-less Inv-loop μ-loop
 loop-less c =
-    let told = c .before .before .before .before .before .before .before in
+    let told = c .before .before .before .before .before .before .before .before in
     let turn = told .before .before in
     let loop = turn .before .loop in
     let h = number-later _ _ _ (loop .row) (loop .at) (loop .count) _ _ (loop .inv) (turn .read-number .ensures)
-    (told .value .given .1) in
+    (told .number .given .1) in
     omega arith
 
 loop-again : tie.Need-loop-again Inv-loop μ-loop
 loop-again c =
-    space _ _ _ _ _ _ (number-kept (c .before .before .before .before)) (c .before .before .before .if1 .left)
-    (c .if3 .left)
+    let read = c .before .before in
+    space _ _ _ _ _ _ (number-kept (read .before .before .before)) (read .before .before .if1 .left) (c .if4 .left)
 
 pub read-numbers-spec : {M : Type 1} → statement M
 read-numbers-spec =
     tie.close
     (tie.spec Inv-loop μ-loop loop-holds (λ c κs. search needs) (λ c. search needs) enum-told returns
-    keep-number-requires add-count returns-2 (λ c. omega arith) (λ c. omega arith) returns-3 returns-4
-    (λ c. omega arith) loop-less loop-again)
+    keep-number-requires add-count returns-2 (λ c. omega arith) (λ c. omega arith) returns-3 (λ c. omega arith)
+    (λ c κs. search needs) returns-4 returns-5 (λ c. omega arith) loop-less loop-again)
