@@ -23,7 +23,7 @@ class Refused(Exception):
 
 # --- pin lists ------------------------------------------------------------------------------------------------------
 
-# Req 01: a gap is one space or more, a line end a line feed or a carriage return and a line feed, each line by itself.
+# Req 01: one or more spaces before each number, and at most one carriage return before the line feed of each line.
 ROW_FORM = rb"((?: +(?:0|[1-9][0-9]*))+)\r?\n"
 FORM = re.compile(rb"TOP" + ROW_FORM + rb"BOT" + ROW_FORM)
 SHORTEST = b"TOP 0\nBOT 0\n"

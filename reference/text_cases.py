@@ -13,9 +13,14 @@ def text(top, bot, wide=1, ends=(b"\n", b"\n")):
     return line(b"TOP", top, wide, ends[0]) + line(b"BOT", bot, wide, ends[1])
 
 
+def in_columns(plain):
+    """A text of the form as order screens pad it: in columns of four bytes, a carriage return before each line feed."""
+    lines = (row.split() for row in plain.splitlines())
+    return b"".join(word + b"".join(b" " + n.rjust(3) for n in row) + b"\r\n" for word, *row in lines)
+
+
 def padded(top, bot):
-    """The rows as order screens pad them: in columns of four bytes, with a carriage return before each line feed."""
-    return text(top, bot, 3, RETURNS)
+    return in_columns(text(top, bot))
 
 
 GOOD = text([0, 1, 2, 3], [1, 2, 0, 3])
