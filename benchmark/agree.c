@@ -52,7 +52,7 @@ static void compare_parked(enum shape shape, struct input *in)
         seed(count);
         park_pins(in, count);
         compare_all(name, in, false);
-        write_text(in);
+        write_shape(shape, in);
         draw_file(in);
         compare_all(name, in, false);
     }

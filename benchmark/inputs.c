@@ -7,7 +7,7 @@
 #include "text.h"
 
 const char *const shape_names[SHAPES] = {
-    "example-B", "dense", "chain", "fullest", "ring-255", "ring-511", "file-4095", "file-4095-mixed",
+    "example-B", "dense", "chain", "fullest", "padded", "ring-255", "ring-511", "file-4095", "file-4095-mixed",
 };
 
 /* Nets one inside the other, no two in a column: the density is half the width. */
@@ -94,10 +94,18 @@ static void shuffle_file(struct input *in)
     }
 }
 
+void write_shape(enum shape shape, struct input *in)
+{
+    if (shape == PADDED)
+        write_spaced_text(in, 3, "\r\n", "\r\n");
+    else
+        write_text(in);
+}
+
 void make_input(enum shape shape, size_t width, struct input *in)
 {
     make_rows(shape, width, in);
-    write_text(in);
+    write_shape(shape, in);
     draw_file(in);
     if (shape >= FULL_FILE)
         fill_file(in);
@@ -107,6 +115,8 @@ void make_input(enum shape shape, size_t width, struct input *in)
 
 bool measured_on(enum operation operation, enum shape shape)
 {
+    if (shape == PADDED) /* the other operations take rows */
+        return operation == READ;
     return operation == JUDGE ? shape < RING_255 || shape >= FULL_FILE : shape < FULL_FILE;
 }
 

@@ -6,8 +6,8 @@
 
 #include "sides.h"
 
-/* What is measured. The last two are boards alone. */
-enum shape { EXAMPLE_B, DENSE, CHAIN, FULLEST, RING_255, RING_511, FULL_FILE, MIXED_FILE, SHAPES };
+/* What is measured. The padded one is the fullest as another text; the last two are boards alone. */
+enum shape { EXAMPLE_B, DENSE, CHAIN, FULLEST, PADDED, RING_255, RING_511, FULL_FILE, MIXED_FILE, SHAPES };
 
 extern const char *const shape_names[SHAPES];
 
@@ -15,6 +15,10 @@ extern const char *const shape_names[SHAPES];
  * draws; the shapes that are boards alone repeat the fullest board's pieces up to 4,095, and the mixed one shuffles
  * them. */
 void make_input(enum shape shape, size_t width, struct input *input);
+
+/* Writes the rows of an input as the text that a shape has: the padded one in columns of four, with a carriage return
+ * before each line feed. */
+void write_shape(enum shape shape, struct input *input);
 
 /* Whether an operation is measured on a shape. */
 bool measured_on(enum operation operation, enum shape shape);
@@ -32,10 +36,11 @@ void seed(uint64_t state);
 void park_pins(struct input *input, uint32_t count);
 
 /* A random channel with its text, sometimes one that is refused; its board is drawn if it can be routed, and then
- * damaged more often than not. */
+ * damaged more often than not. More often than not the text has runs of spaces, or carriage returns where lines end. */
 void random_input(struct input *input);
 
-/* Changes or cuts the text of an input. */
+/* Changes or cuts the text of an input: spaces, carriage returns and tabs come where they belong and where they do
+ * not. */
 void garble(struct input *input);
 
 #endif

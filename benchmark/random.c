@@ -66,6 +66,39 @@ static void spoil_rows(struct input *in)
     }
 }
 
+/* Puts a byte into the text, before the one of index i. No random text comes near the limit. */
+static void put_byte(struct input *in, size_t i, char byte)
+{
+    memmove(in->text + i + 1, in->text + i, in->text_length - i);
+    in->text[i] = (uint8_t)byte;
+    in->text_length++;
+}
+
+/* Some runs of spaces get longer. */
+static void lengthen_runs(struct input *in)
+{
+    for (uint32_t tries = below(40); tries > 0; tries--) {
+        size_t i = below((uint32_t)in->text_length);
+        for (uint32_t more = in->text[i] == ' ' ? 1 + below(9) : 0; more > 0; more--)
+            put_byte(in, i, ' ');
+    }
+}
+
+/* The rows as a text: plain, or in columns of a width, at times with some longer runs of spaces; each line ends in one
+ * byte or in two. */
+static void random_text(struct input *in)
+{
+    static const char *const ends[] = {"\n", "\r\n"};
+    if (below(3) == 0) {
+        write_text(in);
+        return;
+    }
+    const char *top_end = ends[below(2)], *bot_end = ends[below(2)];
+    write_spaced_text(in, 1 + (int)below(6), top_end, bot_end);
+    if (below(2))
+        lengthen_runs(in);
+}
+
 /* Puts a piece's word in the place of the piece of index i. */
 static void put_piece(struct input *in, uint32_t i, uint32_t kind, uint32_t line, uint32_t from, uint32_t to)
 {
@@ -161,7 +194,7 @@ void random_input(struct input *in)
         park_pins(in, 1 + below((uint32_t)in->top_length));
     if (below(8) == 0)
         spoil_rows(in);
-    write_text(in);
+    random_text(in);
     draw_file(in);
     for (uint32_t slips = below(3); slips > 0 && in->file_length >= 4; slips--)
         damage_file(in);
@@ -169,9 +202,18 @@ void random_input(struct input *in)
 
 void garble(struct input *in)
 {
-    static const char likely[] = "TOPBOT 0123456789 \n\n  ";
-    if (below(3) == 0)
-        in->text_length = below((uint32_t)in->text_length + 1);
-    else
-        in->text[below((uint32_t)in->text_length)] = (uint8_t)likely[below(sizeof likely - 1)];
+    static const char likely[] = "TOPBOT 0123456789 \n\n  \r\r\r\t\t\xA0";
+    size_t i = below((uint32_t)in->text_length);
+    char byte = likely[below(sizeof likely - 1)];
+    uint32_t slip = below(6);
+    if (slip < 2) {
+        in->text_length = i;
+    } else if (slip < 4) {
+        in->text[i] = (uint8_t)byte;
+    } else if (slip < 5) {
+        put_byte(in, i, byte);
+    } else { /* about the end of the first line */
+        const uint8_t *end = memchr(in->text, '\n', in->text_length);
+        put_byte(in, (size_t)(end - in->text) - 1 + below(3), byte);
+    }
 }

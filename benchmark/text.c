@@ -4,19 +4,24 @@
 #include <stdio.h>
 #include <string.h>
 
-static size_t write_line(char *at, const char *word, const uint32_t *row, size_t length)
+static size_t write_line(char *at, const char *word, const uint32_t *row, size_t length, int width, const char *end)
 {
     size_t n = (size_t)sprintf(at, "%s", word);
     for (size_t i = 0; i < length; i++)
-        n += (size_t)sprintf(at + n, " %u", row[i]);
-    at[n] = '\n';
-    return n + 1;
+        n += (size_t)sprintf(at + n, " %*u", width, row[i]);
+    return n + (size_t)sprintf(at + n, "%s", end);
+}
+
+void write_spaced_text(struct input *in, int width, const char *top_end, const char *bot_end)
+{
+    char *at = (char *)in->text;
+    size_t n = write_line(at, "TOP", in->top, in->top_length, width, top_end);
+    in->text_length = n + write_line(at + n, "BOT", in->bot, in->bot_length, width, bot_end);
 }
 
 void write_text(struct input *in)
 {
-    size_t n = write_line((char *)in->text, "TOP", in->top, in->top_length);
-    in->text_length = n + write_line((char *)in->text + n, "BOT", in->bot, in->bot_length);
+    write_spaced_text(in, 1, "\n", "\n");
 }
 
 void draw_file(struct input *in)

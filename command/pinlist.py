@@ -3,8 +3,9 @@ SIDES = ("TOP", "BOT")
 
 
 def rows_of(text):
-    """The two rows of a text of the form, as written: a number may have more digits than any machine word."""
-    return tuple(line.decode("ascii").split(" ")[1:] for line in text.split(b"\n")[:2])
+    """The two rows of a text of the form, as written: a number may have more digits than any machine word. No other
+    white space than spaces stands between its numbers, and none but a carriage return at the end of a line."""
+    return tuple(line.decode("ascii").split()[1:] for line in text.split(b"\n")[:2])
 
 
 def side_and_column(position, width):

@@ -15,6 +15,7 @@ from pathlib import Path
 sys.dont_write_bytecode = True
 ROOT = Path(__file__).resolve().parent.parent
 A = b"TOP 0 1 2 3\nBOT 1 2 0 3\n"
+PADDED = b"TOP   0   1   2   3\r\nBOT   1   2   0   3\r\n"
 L = b"TOP 1 0\nBOT 0 0\n"
 L_LISTED = b"BOARD 2 0 8\nBOUND 0 0\nEND 0\n"
 USED = b"width 4, tracks 2, pieces 11, blank 8\n"
@@ -68,6 +69,12 @@ class Installed(unittest.TestCase):
         self.assertEqual(run(command, "--version").stdout, (ROOT / "VERSION").read_bytes())
         self.assertFalse(list(self.prefix.rglob("__pycache__")) + list(self.prefix.rglob("target")))
         self.assertFalse(list(self.prefix.rglob("test*")))
+
+    def test_a_padded_list(self):
+        """Example A in columns, a carriage return before each line feed: the same board."""
+        command = self.prefix / "bin" / "channel"
+        plain, padded = (run(command, "board", "-", input=pins) for pins in (A, PADDED))
+        self.assertEqual((padded.returncode, padded.stdout, padded.stderr), (0, plain.stdout, b""))
 
     def test_parked_pins(self):
         """Example L: a board without tracks and pieces, and a word on standard error."""

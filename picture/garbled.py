@@ -1,28 +1,31 @@
 """Picture of a text that is no pin list: the line with the byte that does not belong, byte by byte."""
+from command.slips import line_and_column, named
 from picture.frame import NARROWEST, finished
 from picture.scenes import status_of
 from picture.svg import Sheet
 
 BEFORE, AFTER = 24, 12  # how many bytes of the line are shown around the marked one
 CELL, TALL, MARGIN = 16, 26, 24
+GLYPHS = {0x09: "TAB", 0x0a: "LF", 0x0d: "CR", 0x20: "·"}
 
 
 def glyph(byte):
-    """A byte as its cell shows it; what cannot be seen is written in hexadecimal."""
-    return chr(byte) if 0x20 < byte < 0x7f else {0x20: "·", 0x0a: "LF"}.get(byte, f"{byte:02X}")
+    """A byte as its cell shows it; what cannot be seen has a short name, or is written in hexadecimal."""
+    return chr(byte) if 0x20 < byte < 0x7f else GLYPHS.get(byte, f"{byte:02X}")
 
 
 def line_around(text, place):
-    """The line's number, the offset of its first shown byte, the bytes shown, and whether it is cut at either side."""
+    """The offset of the first byte shown of its line, the bytes shown, and whether the line is cut at either side."""
     start = text.rfind(b"\n", 0, place) + 1
     end = text.find(b"\n", place) + 1 or len(text)
     shown, last = max(start, place - BEFORE), min(end, place + AFTER + 1)
-    return text.count(b"\n", 0, place) + 1, shown, text[shown:last], shown > start, last < end
+    return shown, text[shown:last], shown > start, last < end
 
 
 def draw_text(text, verdict, words):
     place, sheet = verdict.place, Sheet()
-    number, shown, line, cut_left, cut_right = line_around(text, place)
+    number, within = line_and_column(text, place)
+    shown, line, cut_left, cut_right = line_around(text, place)
     title = f"line {number} of the text"
     sheet.text(NARROWEST / 2, 26, title, class_="title", font_size=16, text_anchor="middle")
     sheet.text(NARROWEST / 2, 46, status_of(verdict), class_="bad", font_size=13, text_anchor="middle")
@@ -34,15 +37,8 @@ def draw_text(text, verdict, words):
     draw_cuts(sheet, len(line), cut_left, cut_right)
     mark_cell(sheet, place - shown, place)
     what = f"it is {named(text[place])}" if place < len(text) else "the text ends before it"
-    within = place - text.rfind(b"\n", 0, place)
     more = f"Offset {place} is byte {within} of line {number}; {what}."
     return finished(sheet, NARROWEST, 148, 1, title, [words, more])
-
-
-def named(byte):
-    if 0x20 < byte < 0x7f:
-        return f"'{chr(byte)}'"
-    return {0x20: "a space", 0x0a: "a line feed"}.get(byte, f"hexadecimal {byte:02X}")
 
 
 def mark_cell(sheet, i, place):

@@ -6,6 +6,7 @@ from pathlib import Path
 sys.dont_write_bytecode = True
 sys.path.insert(0, str(Path(__file__).resolve().parent.parent / "reference"))
 import channel  # noqa: E402  (the independent program; its folder is on the path only now)
+from text_cases import in_columns  # noqa: E402
 
 A = b"TOP 0 1 2 3\nBOT 1 2 0 3\n"
 B = b"TOP 0 1 6 1 2 3 5\nBOT 6 3 5 4 0 2 4\n"
@@ -54,16 +55,29 @@ REFUSED_ROWS = {  # text, columns drawn, marked points
     "M, 513 columns": (text_of([0] * 513, [0] * 513), 513, {(513, 1), (513, 0)}),
     "far too wide": (text_of([1] * 20000, [1]), 516, {(513, 1)}), "uneven": (b"TOP 1 2 3\nBOT 1\n", 3, {(2, 0)}),
     "5,000 digits": (text_of([1, 1, 0], [0, 0, "9" * 5000]), 3, {(3, 0)})}
-REFUSED_TEXTS = {  # text, marked cell, cells
-    "K": (b"TOP 01", 5, list("TOP·01")),
-    "escaped": (b"TOP 1\nBOT <&\"\0\xff\n", 4, list("BOT·<&\"") + ["00", "FF", "LF"]),
-    "empty": (b"", 0, ["end"]), "cut off": (b"TOP 1\nBOT 1", 5, list("BOT·1") + ["end"]),
-    "too long": (b"TOP" + b" 1" * 40000, 24, list("1·" * 18 + "1"))}
+REFUSED_TEXTS = {  # text, marked cell, cells, what is said of the byte
+    "K": (b"TOP 01", 5, list("TOP·01"), "Offset 5 is byte 6 of line 1; it is '1'."),
+    "escaped": (b"TOP 1\nBOT <&\"\0\xff\n", 4, list("BOT·<&\"") + ["00", "FF", "LF"], "it is '<'."),
+    "no ASCII": (b"TOP 1\xff\n", 5, list("TOP·1") + ["FF", "LF"], "it is the byte FF (hexadecimal)."),
+    "empty": (b"", 0, ["end"], "the text ends before it."),
+    "cut off": (b"TOP 1\nBOT 1", 5, list("BOT·1") + ["end"], "byte 6 of line 2; the text ends before it."),
+    "a space at the end": (b"TOP   1 \r\nBOT 1\r\n", 8, list("TOP···1·") + ["CR", "LF"], "it is a carriage return."),
+    "no line feed": (b"TOP 1\rBOT 1\r", 6, [*"TOP·1", "CR", *"BOT·1", "CR"], "it is 'B'."),
+    "cut behind a carriage return": (b"TOP 1\r\nBOT  1\r", 7, list("BOT··1") + ["CR", "end"],
+                                     "Offset 14 is byte 8 of line 2; the text ends before it."),
+    "a tab": (b"TOP 1\t2\nBOT 1 2\n", 5, [*"TOP·1", "TAB", "2", "LF"], "it is a tab."),
+    "a long run of spaces": (b"TOP" + b" " * 100 + b"\nBOT 1\n", 24, ["·"] * 24 + ["LF"], "it is a line feed."),
+    "too long": (b"TOP" + b" 1" * 40000, 24, list("1·" * 18 + "1"), "it is '1'.")}
 REFUSED_BOARDS = {  # file, words
     "torn": (b"abc", "REFUSED 8 4: torn"), "bad header": (channel.encode(513, 1, []), "REFUSED 9 0: bad field"),
     "bad piece": (channel.encode(4, 2, [(0, 1, 1, 2), (1, 2, 0, 9)]), "branch, column 2, rows 0 to 9"),
     "wrong board": (channel.encode(5, 2, []), "REFUSED 10 5: wrong board"),
     "long board": (bytes(65537), "REFUSED 0 65536")}
+
+
+# Runs whose pin list is padded too; it has the same picture.
+PADDED = ("A", "512 columns", "parked, opposite a net", "ring D", "ring parked", "M, 513 columns", "uneven",
+          "5,000 digits", "H", "I", "J", "bad piece", "short to a parked pin")
 
 
 def faulty():
@@ -101,6 +115,7 @@ def runs():
     table["A again"] = (A, channel.board(A))
     table["taller"] = (A, taller())
     table.update({name: (OPPOSITE, file) for name, file in to_parked().items()})
+    table.update({f"{name}, padded": (in_columns(table[name][0]), *table[name][1:]) for name in PADDED})
     table["split"] = (D, channel.encode(4, 4, SPLIT))
     table["standard input"] = (b"", None, B)
     return files, table

@@ -16,8 +16,8 @@ from xml.etree.ElementTree import ParseError
 
 sys.dont_write_bytecode = True
 from read_back import SVG, Sheet  # noqa: E402  (no compiled copies are to be left in the tree)
-from test_cases import (A, D, GOOD, OPPOSITE, REFUSED_BOARDS, REFUSED_ROWS, REFUSED_TEXTS, RINGS, channel,  # noqa: E402
-                        runs)
+from test_cases import (A, D, GOOD, OPPOSITE, PADDED, REFUSED_BOARDS, REFUSED_ROWS, REFUSED_TEXTS, RINGS,  # noqa: E402
+                        channel, runs)
 
 ROOT = Path(__file__).resolve().parent.parent
 LARGEST = 2_000_000
@@ -180,13 +180,14 @@ def check_rows(name, answer, columns, marks):
     check_parked(name, answer, sheet, set())
 
 
-def check_text(name, answer, cell, shown):
-    """A line of the text with one cell marked."""
+def check_text(name, answer, cell, shown, words):
+    """A line of the text with one cell marked, and words on its byte."""
     check(f"{name}: status", answer[0] == 1)
     sheet = sheet_of(name, answer)
     cells, marks = sheet.inside("line", "cell"), sheet.inside("marks", "mark")
     check(f"{name}: mark", len(marks) == 1 and cells[cell].get("x") == marks[0].get("x"))
     check(f"{name}: bytes", [e.text for e in sheet.inside("line", "byte")] == shown)
+    check(f"{name}: words", words in sheet.words())
 
 
 def check_faults(answers, files):
@@ -242,8 +243,8 @@ def main():
     check_faults(answers, files)
     for name, (_, columns, marks) in REFUSED_ROWS.items():
         check_rows(name, answers[name], columns, marks)
-    for name, (_, cell, shown) in REFUSED_TEXTS.items():
-        check_text(name, answers[name], cell, shown)
+    for name, (_, *due) in REFUSED_TEXTS.items():
+        check_text(name, answers[name], *due)
     check_boards_refused(answers)
     check_at_parked_pins(answers, table)
     split = check_board("split", answers["split"], D, table["split"][1])
@@ -251,6 +252,8 @@ def main():
     taller = check_board("taller", answers["taller"], A, table["taller"][1])
     check("taller: title", "tracks 5 (the router fills 2, blank 8)" in taller.words())
     check("a board file of the router's is drawn the same", answers["A again"] == answers["A"])
+    for name in PADDED:
+        check(f"{name}, padded: the same picture", answers[f"{name}, padded"][:2] == answers[name][:2])
     check("standard input", answers["standard input"] == answers["B"])
     for example, name in (("B", "example_b"), ("ring D", "example_d")):
         check(f"docs/{name}.svg", (ROOT / "docs" / f"{name}.svg").read_bytes() == answers[example][1])

@@ -23,21 +23,22 @@ class Refused(Exception):
 
 # --- pin lists ------------------------------------------------------------------------------------------------------
 
-FORM = re.compile(rb"TOP((?: (?:0|[1-9][0-9]*))+)\nBOT((?: (?:0|[1-9][0-9]*))+)\n")
+# Req 01: one or more spaces before each number, and at most one carriage return before the line feed of each line.
+ROW_FORM = rb"((?: +(?:0|[1-9][0-9]*))+)\r?\n"
+FORM = re.compile(rb"TOP" + ROW_FORM + rb"BOT" + ROW_FORM)
+SHORTEST = b"TOP 0\nBOT 0\n"
 
 
 def starts_a_form(text):
-    """Whether some text of the form begins with these bytes: a completion is tried for each kind of end."""
-    completions = (b"", b"0", b" 0", b" 0\nBOT 0\n", b"0\nBOT 0\n", b"\nBOT 0\n", b"BOT 0\n", b"OT 0\n", b"T 0\n",
-                   b"OP 0\nBOT 0\n", b"P 0\nBOT 0\n", b"TOP 0\nBOT 0\n", b" 0\n", b"0\n", b"\n")
-    return any(FORM.fullmatch(text + c) for c in completions)
+    """Whether some text of the form begins with these bytes: then some end of the shortest one completes them."""
+    return any(FORM.fullmatch(text + SHORTEST[at:]) for at in range(len(SHORTEST) + 1))
 
 
 def parse(text):
     """The two rows of a text, or refusal 2."""
     match = FORM.fullmatch(text)
     if match:
-        # a number of more than nine digits is some number over 511, whatever it is
+        # a part has spaces and digits alone; a number of more than nine digits is some number over 511, whatever it is
         return [[int(n) if len(n) < 10 else 10**9 for n in part.split()] for part in match.groups()]
     low, high = 0, len(text)  # sharing a start with a text of the form is lost once and for all
     while low < high:

@@ -51,6 +51,11 @@ def lacking(numbers, due):
     return f"never answered: {' '.join(missing)}" if missing else None
 
 
+def having(features, names):
+    """How many cases have each feature."""
+    return ", ".join(f"{features[name]} with {name}" for name in names)
+
+
 def counted(numbers):
     """How often each number was answered."""
     rising = sorted(numbers, key=lambda n: -1 if n is None else n)
@@ -77,12 +82,12 @@ def entries(seed):
     each = Counter(batch.NAMES[case.kind()] for case in cases)
     kinds = ", ".join(f"{name} {each[name]}" for name in batch.NAMES)
     features = sum((found for _, found in parts), Counter())
-    good = ", ".join(f"{features[name]} with {name}" for name in entry_cases.GOOD)
     parked = ", ".join(f"{name} {features[name]}" for name in entry_cases.PARKED)
-    missing = lacking(numbers, ENTRY_NUMBERS) or lacking(features, entry_cases.GOOD + entry_cases.PARKED)
-    return difference or missing, (
-        f"{len(cases)} cases in one process ({kinds}); answers {counted(numbers)}; good boards {good}; parked pins in"
-        f" {parked}")
+    due = entry_cases.GOOD + entry_cases.PARKED + entry_cases.READ + entry_cases.GARBLED
+    return difference or lacking(numbers, ENTRY_NUMBERS) or lacking(features, due), (
+        f"{len(cases)} cases in one process ({kinds}); answers {counted(numbers)}; good boards"
+        f" {having(features, entry_cases.GOOD)}; parked pins in {parked}; texts read"
+        f" {having(features, entry_cases.READ)}; garbled {having(features, entry_cases.GARBLED)}")
 
 
 def run(name, part, *arguments):

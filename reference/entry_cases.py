@@ -13,10 +13,14 @@ import row_cases
 import small_channels
 import text_cases
 
-# What some good board, and some channel or board with parked pins, must show.
+# What must be shown by some good board, some channel or board with parked pins, some text that is read, and some text
+# that is garbled.
 GOOD = ("several trunks a net", "a tangled channel", "copper at an edge place without a pin",
         "copper on a parked pin", "a parked pin without copper")
 PARKED = ("a routed channel", "a channel of nothing else", "a refused ring", "a short")
+READ = ("runs of spaces", "a carriage return in each line", "one in TOP alone", "one in BOT alone")
+GARBLED = ("a carriage return in the place", "one before the place", "a tab in the place",
+           "a space before a line's end in the place")
 SMALL_CHANNELS = [tuple(map(list, rows)) for rows in small_channels.shapes(2)]
 
 
@@ -32,7 +36,7 @@ def text_job(rng):
         text = random_texts.drawn(rng, *random_channels.escaping(rng))
         yield batch.read(text, rng.randrange(256), lent(rng, channel.ROW), lent(rng, channel.ROW))
         yield batch.read(random_texts.noise(rng), rng.randrange(256))
-        yield batch.read(text_cases.text(*random_channels.refused(rng)), rng.randrange(256))
+        yield batch.read(random_texts.typed(rng, *random_channels.refused(rng)), rng.randrange(256))
 
 
 def channel_job(rng):
@@ -94,7 +98,7 @@ def wide_job(rng):
         rows = random_channels.wide(rng)
         yield batch.route(*rows, rng.randrange(256))
         yield batch.bounds(*rows, rng.randrange(256))
-        yield batch.read(text_cases.text(*rows), rng.randrange(256))
+        yield batch.read(random_texts.typed(rng, *rows), rng.randrange(256))
     tracks, pieces = random_boards.routed(rng, rows)
     yield from damages(rng, rows, tracks, pieces, 1)
     rows, tracks, pieces = random_boards.scattered(rng, rng.randint(400, 512), rng.randint(1, 40), 1000)
@@ -114,11 +118,11 @@ def small_board_job(_):
 
 
 def fixed_job(_):
-    """Blanks, texts about the programs' limit, the channels of the gate, the tallest boards, boards with parked pins, a
-    split trunk made by hand, and each buffer too short where other refusals would follow."""
+    """Blanks, texts about the programs' limit and garbled ones, the channels of the gate, the tallest boards, boards
+    with parked pins, a split trunk made by hand, and each buffer too short where other refusals would follow."""
     for tracks in [*range(0, 600), 2**16, 2**31, 2**32 - 1]:
         yield batch.blank(tracks)
-    for text in list(random_texts.long_texts())[::2]:
+    for text in [*list(random_texts.long_texts())[::2], *text_cases.BAD, text_cases.GOOD, text_cases.PADDED]:
         yield batch.read(text, 1)
     for rows in row_cases.channels():
         yield batch.route(*rows)
@@ -161,6 +165,8 @@ def features(case):
         yield from good_features(case)
     if case.kind() in (batch.ROUTE, batch.JUDGE) and case.number() in (0, 7, 11):
         yield from parked_features(case)
+    if case.kind() == batch.READ and case.number() in (0, 2):
+        yield from text_features(case)
 
 
 def good_features(case):
@@ -198,3 +204,15 @@ def parked_features(case):
             yield nothing_else
     elif case.number() == 11 and (top + bot)[case.place() - 1] in parked:
         yield short
+
+
+def text_features(case):
+    """What a text that is read shows of spaces and line ends; or one that is garbled, in the place."""
+    _, text = case.inputs()
+    if case.number() == 0:
+        returns = [line.endswith(b"\r") for line in text.split(b"\n")[:2]]
+        shown = b"  " in text, all(returns), returns == [True, False], returns == [False, True]
+    else:
+        here, before = text[case.place():][:1], text[:case.place()][-1:]
+        shown = here == b"\r", before == b"\r", here == b"\t", before == b" " and here in (b"\r", b"\n")
+    yield from (name for name, seen in zip(GARBLED if case.number() else READ, shown) if seen)

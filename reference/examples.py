@@ -1,5 +1,5 @@
-"""Runs the three programs and `./channel make` on the bench examples A to M of the owner's papers and compares what
-they write with the papers, to the letter.
+"""Runs the three programs and `./channel make` on the bench examples A to M of the owner's papers, and on some of the
+spaces of Req 01, and compares what they write with the papers, to the letter.
 
 Usage: python3 reference/examples.py target/bin
 """
@@ -12,8 +12,11 @@ import channel
 
 A = b"TOP 0 1 2 3\nBOT 1 2 0 3\n"
 L = b"TOP 1 0\nBOT 0 0\n"
+A_LISTED = b"BOARD 4 2 8\nBOUND 2 2\nNET 1 1 2 2\nNET 2 2 3 1\nNET 3 4 4 0\nEND 11\n"
 LISTED = {
-    "A": (A, b"BOARD 4 2 8\nBOUND 2 2\nNET 1 1 2 2\nNET 2 2 3 1\nNET 3 4 4 0\nEND 11\n"),
+    "A": (A, A_LISTED),
+    "A, padded": (b"TOP   0   1   2   3\r\nBOT   1   2   0   3\r\n", A_LISTED),
+    "A, as typed": (b"TOP  0 1    2 3\r\nBOT 1  2 0 3\n", A_LISTED),
     "B": (b"TOP 0 1 6 1 2 3 5\nBOT 6 3 5 4 0 2 4\n",
           b"BOARD 7 5 8\nBOUND 4 3\nNET 1 2 4 5\nNET 2 5 6 3\nNET 3 2 6 4\nNET 4 4 7 1\nNET 5 3 7 2\nNET 6 1 3 3\n"
           b"END 30\n"),
@@ -29,8 +32,13 @@ LISTED = {
     "M, net 512": (b"TOP 512\nBOT 512\n", b"REFUSED 5 1\n"),
     "M, 512 columns": (b"TOP" + b" 0" * 512 + b"\nBOT" + b" 0" * 512 + b"\n", b"BOARD 512 0 8\nBOUND 0 0\nEND 0\n"),
     "M, 513 columns": (b"TOP" + b" 0" * 513 + b"\nBOT" + b" 0" * 513 + b"\n", b"REFUSED 3 513\n"),
+    "cut at a carriage return": (b"TOP 1\r", b"REFUSED 2 6\n"),
+    "two carriage returns": (b"TOP 1\r\r\nBOT 1\n", b"REFUSED 2 6\n"),
+    "spaces at a line's end": (b"TOP 1  \r\nBOT 1\r\n", b"REFUSED 2 7\n"),
+    "a tab": (b"TOP 1\t1\nBOT 1 1\n", b"REFUSED 2 5\n"),
     "too long": (b"TOP" + b" 0" * 40000, b"REFUSED 0 65536\n"),
-    "as long as may be": (b"TOP" + b" " * 65533, b"REFUSED 2 4\n"),
+    "as long as may be": (b"TOP" + b" " * 65525 + b"5\nBOT 5\n", b"BOARD 1 0 8\nBOUND 0 0\nNET 5 1 1 0\nEND 1\n"),
+    "as long, and garbled": (b"TOP" + b" " * 65533, b"REFUSED 2 65536\n"),
 }
 
 

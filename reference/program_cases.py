@@ -13,7 +13,7 @@ import row_cases
 import text_cases
 
 BINS = Path(__file__).resolve().parent.parent / "target" / "bin"
-FORM_SHOWN = re.compile(rb"TOP[ 0-9]+\nBOT[ 0-9]+\n")
+FORM_SHOWN = re.compile(rb"TOP[ 0-9]+\r?\nBOT[ 0-9]+\r?\n")
 
 
 class Case:
@@ -43,7 +43,7 @@ class Case:
     def shown(self):
         lines = [self.program, shown_file("pins", self.pins)]
         if FORM_SHOWN.fullmatch(self.pins or b""):
-            lines.append(self.pins.decode("ascii").rstrip("\n"))
+            lines += self.pins.decode("ascii").splitlines()
         if self.program == "board_judge":
             lines.append(shown_file("board", self.board))
         return "\n".join(lines)
@@ -61,9 +61,9 @@ def text_job(rng):
     """Narrow channels, refused rows, and texts with slips."""
     for _ in range(45):
         yield from both([random_texts.drawn(rng, *random_channels.escaping(rng))])
-        yield from both([text_cases.text(*random_channels.escaping(rng))])
+        yield from both([random_texts.typed(rng, *random_channels.escaping(rng))])
     for _ in range(15):
-        yield from both([text_cases.text(*random_channels.refused(rng)), random_texts.noise(rng)])
+        yield from both([random_texts.typed(rng, *random_channels.refused(rng)), random_texts.noise(rng)])
 
 
 def bench_job(_):
@@ -72,6 +72,7 @@ def bench_job(_):
     width, tracks, pieces = channel.open_board(channel.board(examples.A))
     for changed in (pieces, pieces[:7] + pieces[8:], pieces[:3] + [(1, 2, 1, 3)] + pieces[4:], pieces + [(0, 2, 3, 4)]):
         yield Case("board_judge", examples.A, channel.encode(width, tracks, changed))
+    yield Case("board_judge", text_cases.PADDED, channel.board(examples.A))
     yield Case("board_judge", examples.L, channel.board(examples.L))
     yield Case("board_judge", examples.A, channel.encode(width, tracks, pieces + [(3, 1, 1, 2)]))
     yield Case("board_judge", examples.A, channel.encode(width + 1, tracks, pieces))
@@ -82,7 +83,7 @@ def bench_job(_):
 
 def wide_job(rng):
     for _ in range(15):
-        yield from both([text_cases.text(*random_channels.wide(rng))])
+        yield from both([random_texts.typed(rng, *random_channels.wide(rng))])
     most = row_cases.chained(511), row_cases.ring(255, 100), ([0] * 512, [0] * 512), ([0] * 513, [0] * 513)
     parked = row_cases.crowded(), ([*range(1, 512), 0], [0] * 512)
     yield from both(text_cases.text(*rows) for rows in most + parked)
@@ -100,7 +101,7 @@ def board_job(rng):
     for i in range(30):
         rows = random_channels.wide(rng) if i % 12 == 0 else random_channels.escaping(rng)
         tracks, pieces = random_boards.routed(rng, rows)
-        text, width = text_cases.text(*rows), len(rows[0])
+        text, width = random_texts.typed(rng, *rows), len(rows[0])
         file = channel.encode(width, tracks, pieces)
         slip = random_boards.damaged_pieces(rng, tracks, pieces, width)
         yield Case("board_judge", text, file)
@@ -108,11 +109,11 @@ def board_job(rng):
         stubs = random_boards.stubbed(rng, rows, tracks, pieces)
         yield Case("board_judge", text, channel.encode(width, tracks, stubs))
         yield Case("board_judge", text, random_boards.damaged_file(rng, file))
-        yield Case("board_judge", text_cases.text(*random_channels.escaping(rng)), file)
+        yield Case("board_judge", random_texts.typed(rng, *random_channels.escaping(rng)), file)
     for _ in range(15):
         rows = random_boards.spaced(rng, *random_channels.renumbered(rng, *random_channels.tangled(rng, 3)), 0.6)
         rows, tracks, pieces = random_boards.mazed(rng, *rows, 2 + len(rows[0]))
-        yield Case("board_judge", text_cases.text(*rows), channel.encode(len(rows[0]), tracks, pieces))
+        yield Case("board_judge", random_texts.typed(rng, *rows), channel.encode(len(rows[0]), tracks, pieces))
 
 
 def file_job(rng):
@@ -121,7 +122,7 @@ def file_job(rng):
     file = channel.board(text)
     long = bytes(channel.LIMIT + 1)
     uneven, parked = text_cases.text([1, 1], [0]), text_cases.text([1], [0])
-    for pins in (None, b"", text, b"TOP 01", uneven, parked, long, text + long):
+    for pins in (None, b"", text, text_cases.PADDED, b"TOP 01", b"TOP 1\r", uneven, parked, long, text + long):
         for board in (None, b"", file, file[:-1], long[:-1], long, file + long):
             yield Case("board_judge", pins, board)
     full = [(1, 1 + k % 4, 0, 3) for k in range(4095)]

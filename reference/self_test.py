@@ -1,10 +1,13 @@
 """The test of the comparison itself: a wrong answer in each part has to be found, and shown with its input."""
 import random
+import re
+from unittest import mock
 
 import batch
 import channel
 import entry_cases
 import exhaustive
+import form_checks
 import layout_search
 import parked_checks
 import program_cases
@@ -20,6 +23,12 @@ FILE = channel.board(text_cases.GOOD)
 WRONG_PARKED = {"BLOCKS": ("channel_job",), "DRAWS": ("channel_job",), "COUNTS": ("channel_job",),
                 "SKIPS": ("own_board_job", "scatter_job", "maze_job")}
 WRONG_ROUTERS = ("BLOCKS", "DRAWS")
+# Forms that get Req 01 wrong: what they take before a number, and at the end of a line.
+WRONG_FORMS = {
+    "no runs of spaces": (b" ", rb"\r?\n"), "tabs": (rb"[ \t]+", rb"\r?\n"), "no carriage return": (b" +", rb"\n"),
+    "a carriage return in each line": (b" +", rb"\r\n"), "any carriage returns": (b" +", rb"\r*\n"),
+    "a carriage return alone": (b" +", rb"(?:\r\n?|\n)"), "spaces before a line's end": (b" +", rb" *\r?\n"),
+}
 
 
 def wrong_dues(cases, answers, first_difference):
@@ -140,12 +149,48 @@ def parked_record_faults(first_difference):
         yield "copper on a parked pin is not found"
 
 
+def with_form(gap, end):
+    row = b"((?:" + gap + b"(?:0|[1-9][0-9]*))+)" + end
+    return mock.patch.object(channel, "FORM", re.compile(b"TOP" + row + b"BOT" + row))
+
+
+def with_place(changed):
+    """A reader that answers another place of garbled, of the text and the right place."""
+    right = channel.parse
+
+    def parse(text):
+        try:
+            return right(text)
+        except channel.Refused as refusal:
+            raise channel.Refused(2, changed(text, refusal.place)) from refusal
+    return mock.patch.object(channel, "parse", parse)
+
+
+def reader_faults(first_difference):
+    """Readers that get spaces and line ends wrong, on texts as they are drawn."""
+    def drawn():
+        return list(entry_cases.text_job(random.Random("self-test")))
+
+    right = drawn()
+    wrong = {name: with_form(*parts) for name, parts in WRONG_FORMS.items()}
+    wrong["the place of a carriage return"] = with_place(lambda text, place: place - text[:place].endswith(b"\r"))
+    wrong["the place in a run of spaces"] = with_place(
+        lambda text, place: min(place, len(text[:place].rstrip(b" ")) + 1))
+    for name, reader in wrong.items():
+        with reader:
+            answers = [case.due for case in drawn()]
+        if not first_difference(right, answers):
+            yield f"a reader that gets this wrong is not found: {name}"
+
+
 def compare(first_difference, lacking):
     """The first fault of the comparison, or None; and what was tried, in words."""
-    faults = [*program_faults(first_difference), *entry_faults(first_difference), *buffer_faults(), *search_faults(),
-              *parked_entry_faults(first_difference), *parked_record_faults(first_difference)]
+    faults = [*form_checks.faults(), *program_faults(first_difference), *entry_faults(first_difference),
+              *buffer_faults(), *search_faults(), *parked_entry_faults(first_difference),
+              *parked_record_faults(first_difference), *reader_faults(first_difference)]
     if lacking({1, 2}, {1, 2, 3}) is None or lacking({1, 2}, {1, 2}):
         faults.append("a number that is never answered is not told")
     return faults[0] if faults else None, (
-        "wrong answers of programs and entries, spoilt buffers, a wrong search, and records, copper, steps, density and"
-        " a judge that get parked pins wrong are found and shown")
+        "the form is as its states say; wrong answers of programs and entries, spoilt buffers, a wrong search, readers"
+        " that get spaces or line ends wrong, and records, copper, steps, density and a judge that get parked pins"
+        " wrong are found and shown")

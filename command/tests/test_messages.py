@@ -9,24 +9,40 @@ from command.tests.workshop import A, ROOT
 
 sys.path.insert(0, str(ROOT / "reference"))
 import channel  # noqa: E402  (the independent program, which writes the faulty boards)
+from text_cases import in_columns  # noqa: E402
 
 SLIPS = {  # the text, and what its message has to have
     b"": ("line 1, column 1 the text ends", "the file is empty"),
     b"\xef\xbb\xbfTOP 1\nBOT 1\n": ("line 1, column 1 the byte EF", "a byte order mark"),
     b"\xff\xfeT\0O\0P\0": ("the byte FF", "UTF-16"),
-    b"TOP 1\r\nBOT 1\r\n": ("line 1, column 6 a carriage return", "CR LF"),
-    b"TOP 1\rBOT 1\r": ("line 1, column 6 a carriage return", "no line end"),
-    b"TOP\t1\nBOT 1\n": ("line 1, column 4 a tab", "a tab parts numbers"),
-    b"TOP 1\nBOT 1\t2\n": ("line 2, column 6 a tab", "a tab parts numbers"),
-    b"TOP  1\nBOT 1\n": ("line 1, column 5 a space", "two spaces"),
-    b"TOP 1 \nBOT 1\n": ("line 1, column 7 a line feed", "a space stands at the end of the line"),
+    b"TOP 1\rBOT 1\r": ("line 1, column 7 'B'", "a carriage return stands without a line feed behind it: end lines in"),
+    b"TOP 1\r\nBOT 1\r2": ("line 2, column 7 '2'", "without a line feed behind it"),
+    b"TOP 1\r \nBOT 1\n": ("line 1, column 7 a space", "without a line feed behind it"),
+    b"TOP 1\n\rBOT 1\n\r": ("line 2, column 1 a carriage return", "without a line feed behind it"),
+    b"TOP 1 \r2\nBOT 1\n": ("line 1, column 7 a carriage return", "without a line feed behind it"),
+    b"TOP 1\r\r\nBOT 1\n": ("line 1, column 7 a carriage return", "two carriage returns stand in a row"),
+    b"TOP 1\r": ("line 1, column 7 the text ends", "the BOT line are missing behind the carriage return"),
+    b"TOP 1\r\nBOT 1\r": ("line 2, column 7 the text ends", "the last line feed is missing behind the carriage return"),
+    b"TOP\t1\nBOT 1\n": ("line 1, column 4 a tab", "a tab parts numbers: part them by spaces"),
+    b"TOP 1\nBOT 1\t2\n": ("line 2, column 6 a tab", "a tab parts numbers: part them by spaces"),
+    b"TOP  1  \t  2\r\nBOT 1 2\r\n": ("line 1, column 9 a tab", "a tab parts numbers: part them by spaces"),
+    b"TOP 1\t\r\nBOT 1\r\n": ("line 1, column 6 a tab", "a tab stands at the end of the line: take it away"),
+    b"TOP 1\xa02\nBOT 1 2\n": ("line 1, column 6 the byte A0", "a space of another kind parts numbers"),
+    b"TOP \xc2\xa01\nBOT 1\n": ("line 1, column 5 the byte C2", "part them by plain spaces"),
+    b"TOP 1 \nBOT 1\n": ("line 1, column 7 a line feed", "a space stands at the end of the line: take it away"),
+    b"TOP   1\r\nBOT   1 \r\n": ("line 2, column 9 a carriage return", "a space stands at the end of the line"),
+    b"TOP 1   \r\nBOT 1\n": ("line 1, column 9 a carriage return", "spaces stand at the end of the line: take them"),
     b"TOP 01\nBOT 1\n": ("line 1, column 6 '1'", "no leading zero"),
+    b"TOP   1 007\r\n": ("line 1, column 10 '0'", "no leading zero"),
     b"TOP 1\nBOT 1": ("line 2, column 6 the text ends", "the last line feed is missing"),
     b"TOP 1": ("line 1, column 6 the text ends", "the BOT line are missing"),
-    b"TOP 1\n": ("line 2, column 1 the text ends", "the BOT line is missing"),
+    b"TOP 1\r\n": ("line 2, column 1 the text ends", "the BOT line is missing"),
     b"TOP 1\nBO": ("line 2, column 3 the text ends", "cut off"),
+    b"TOP 1\nBOT   ": ("line 2, column 7 the text ends", "cut off"),
     b"TOP 1\nBOT 1\n\n": ("line 3, column 1 a line feed", "nothing may follow the BOT line, not even an empty one"),
+    b"TOP 1\r\nBOT 1\r\n\r\n": ("line 3, column 1 a carriage return", "nothing may follow the BOT line, not even an"),
     b"TOP 1\nBOT 1\nMID 1\n": ("line 3, column 1 'M'", "nothing may follow the BOT line"),
+    b"TOP   1   2\r\nBOT   2   1\nx": ("offset 25", "line 3, column 1 'x'", "nothing may follow the BOT line"),
     b"top 1\nbot 1\n": ("line 1, column 1 't'", "TOP, in capitals"),
     b"TOP 1\nBot 1\n": ("line 2, column 2 'o'", "BOT, in capitals"),
     b"BOT 1\nTOP 1\n": ("line 1, column 1 'B'", "this line begins with BOT"),
@@ -34,14 +50,18 @@ SLIPS = {  # the text, and what its message has to have
     b" TOP 1\nBOT 1\n": ("line 1, column 1 a space", "nothing may stand before the word TOP"),
     b"\nTOP 1\nBOT 1\n": ("line 1, column 1 a line feed", "an empty line stands where the TOP line is due"),
     b"TOP 1\n\nBOT 1\n": ("line 2, column 1 a line feed", "an empty line stands where the BOT line is due"),
+    b"TOP 1\r\n\r\nBOT 1\r\n": ("line 2, column 1 a carriage return", "an empty line stands where the BOT line is due"),
+    b"TO\nBOT 1\n": ("line 1, column 3 a line feed", "the line begins with the word TOP"),
     b"1 2\n3 4\n": ("line 1, column 1 '1'", "the line begins with the word TOP"),
-    b"TOP\nBOT\n": ("line 1, column 4 a line feed", "TOP has no numbers"),
-    b"TOP: 1\n": ("line 1, column 4 ':'", "one space and a number are due"),
-    b"TOP 1,2\nBOT 1 2\n": ("line 1, column 6 ','", "parted by one space"),
+    b"TOP\nBOT\n": ("line 1, column 4 a line feed", "TOP has no numbers: a space and a number are due"),
+    b"TOP 1\r\nBOT  \r\n": ("line 2, column 6 a carriage return", "BOT has no numbers: a number is due"),
+    b"TOP: 1\n": ("line 1, column 4 ':'", "a space and a number are due"),
+    b"TOP  : 1\n": ("line 1, column 6 ':'", "a number is due there"),
+    b"TOP 1,2\nBOT 1 2\n": ("line 1, column 6 ','", "parted by spaces and nothing else"),
     b"TOP -1\n": ("line 1, column 5 '-'", "without a sign"),
     b"TOP a\nBOT a\n": ("line 1, column 5 'a'", "a net is a number"),
     b"TOP 1 # one\n": ("line 1, column 7 '#'", "no comments"),
-    b"TOP 1\0\n": ("line 1, column 6 a zero byte", "due there"),
+    b"TOP 1\0\n": ("line 1, column 6 a zero byte", "a space or the end of the line is due there"),
 }
 ROWS = {  # texts that are pin lists by their form
     b"TOP 1 2 2\nBOT 1\n": "TOP 3, so BOT is shorter by 2",
@@ -95,12 +115,14 @@ class Messages(unittest.TestCase):
         for text, part in ROWS.items():
             with self.subTest(text[:30]):
                 self.assertIn(part, said(text))
+                self.assertEqual(said(in_columns(text)), said(text))
 
     def test_faults(self):
         for name, (file, part) in boards().items():
-            with self.subTest(name):
-                _, verdict = programs.judge(A, file)
-                self.assertIn(part, explained(verdict, A, file)[0])
+            for pins in (A, in_columns(A)):
+                with self.subTest(name, pins=pins):
+                    _, verdict = programs.judge(pins, file)
+                    self.assertIn(part, explained(verdict, pins, file)[0])
 
     def test_a_long_ring_is_cut_short(self):
         nets = range(1, 41)
