@@ -7,7 +7,7 @@
 #include "text.h"
 
 const char *const shape_names[SHAPES] = {
-    "example-B", "dense", "chain", "fullest", "padded", "ring-255", "ring-511", "file-4095", "file-4095-mixed",
+    "example-B", "dense", "padded", "chain", "fullest", "ring-255", "ring-511", "file-4095", "file-4095-mixed",
 };
 
 /* Nets one inside the other, no two in a column: the density is half the width. */
@@ -55,6 +55,7 @@ static void make_rows(enum shape shape, size_t width, struct input *in)
         memcpy(in->bot, bot, sizeof bot);
         break;
     case DENSE:
+    case PADDED:
         make_dense(in, (uint32_t)width);
         break;
     case CHAIN:

@@ -6,8 +6,8 @@
 
 #include "sides.h"
 
-/* What is measured. The padded one is the fullest as another text; the last two are boards alone. */
-enum shape { EXAMPLE_B, DENSE, CHAIN, FULLEST, PADDED, RING_255, RING_511, FULL_FILE, MIXED_FILE, SHAPES };
+/* What is measured. The padded one is the dense one as another text; the last two are boards alone. */
+enum shape { EXAMPLE_B, DENSE, PADDED, CHAIN, FULLEST, RING_255, RING_511, FULL_FILE, MIXED_FILE, SHAPES };
 
 extern const char *const shape_names[SHAPES];
 

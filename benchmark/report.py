@@ -20,9 +20,9 @@ WIDTHS = (64, 128, 256, 512)
 SHAPES = {  # the name and what it is
     "example-B": ("example B", "the paper's"),
     "dense": ("density 256", "256 nets, one inside the other, no two in a column"),
+    "padded": ("density 256, padded", "the same list in columns of four, a carriage return before each line feed"),
     "chain": ("chain of 511", "511 nets, each above the next"),
     "fullest": ("fullest channel", "the chain with a pin in every place: no router's board has more pieces"),
-    "padded": ("fullest, padded", "the same list in columns of four, a carriage return before each line feed"),
     "ring-255": ("ring of 255", "255 nets, each above the next and the last above the first"),
     "ring-511": ("ring of 511", "the same of 511 nets, the largest ring"),
     "file-4095": ("4,095 pieces", "the fullest channel's pieces, repeated up to what a file holds"),
