@@ -66,7 +66,7 @@ void board_view_parked(struct board_view *view, const bool *top, const bool *bot
 
 size_t board_view_cells(const struct board_view *view)
 {
-    return (size_t)view->width * view->pitch;
+    return board_view_cell_of(view, view->width) + 1;
 }
 
 size_t board_view_lines(const struct board_view *view)
@@ -76,7 +76,15 @@ size_t board_view_lines(const struct board_view *view)
 
 size_t board_view_cell_of(const struct board_view *view, size_t column)
 {
-    return column * view->pitch - 1;
+    return (view->edge == NULL ? column * view->pitch : view->edge[column]) - 1;
+}
+
+size_t board_view_column_at(const struct board_view *view, size_t cell)
+{
+    size_t column = 1;
+    while (column < view->width && board_view_cell_of(view, column) < cell)
+        column++;
+    return column;
 }
 
 size_t board_view_line_of(const struct board_view *view, size_t row)
@@ -142,25 +150,14 @@ static void put_number(const struct board_view *view, uint32_t number, struct bo
     }
 }
 
-/* The columns that have a cell among those asked for. */
-static size_t first_column(const struct board_view *view, size_t from)
-{
-    return from / view->pitch + 1;
-}
-
-static size_t last_column(const struct board_view *view, size_t from, size_t count)
-{
-    size_t column = (from + count) / view->pitch + 1;
-    return column < view->width ? column : view->width;
-}
-
 /* The pins of row 0 or t + 1: a net number, with a p before it if the pin is parked, or a dot where no pin is and no
  * branch ends. A number leaves the first cell of its column free. */
 static void put_pins(const struct board_view *view, size_t line, size_t from, size_t count, struct board_cell *cells)
 {
     const uint32_t *pins = line == 0 ? view->top : view->bot;
     const bool *parked = line == 0 ? view->top_parked : view->bot_parked;
-    for (size_t c = first_column(view, from); c <= last_column(view, from, count); c++) {
+    size_t last = board_view_column_at(view, from + count);
+    for (size_t c = board_view_column_at(view, from); c <= last; c++) {
         size_t x = board_view_cell_of(view, c), position = line == 0 ? c : view->width + c;
         uint32_t net = pins == NULL ? 0 : pins[c - 1];
         bool is_parked = net != 0 && parked != NULL && parked[c - 1];
@@ -190,7 +187,8 @@ void board_view_ruler(const struct board_view *view, size_t from, size_t count, 
 {
     for (size_t i = 0; i < count; i++)
         cells[i] = copper(0);
-    for (size_t c = first_column(view, from); c <= last_column(view, from, count); c++)
+    size_t last = board_view_column_at(view, from + count);
+    for (size_t c = board_view_column_at(view, from); c <= last; c++)
         put_number(view, (uint32_t)c, (struct board_cell){'0', LOOK_COLUMN, false}, c, from, count, cells);
 }
 

@@ -1,8 +1,9 @@
 /* board_view.h: a board drawn in characters, from the bytes of its file.
  *
- * Columns run across, `pitch` cells each, the copper of a column in the last of them. Row r of the grid (t + 1 for the
- * TOP pins, 0 for the BOT pins) is line 2 * (t + 1 - r); the lines between show whether a branch goes on from one row
- * to the next, and the cells between two columns whether a trunk does. So what is joined can be seen. */
+ * Columns run across, `pitch` cells each or as `edge` has them, the copper of a column in the last of its cells. Row r
+ * of the grid (t + 1 for the TOP pins, 0 for the BOT pins) is line 2 * (t + 1 - r); the lines between show whether a
+ * branch goes on from one row to the next, and the cells between two columns whether a trunk does. So what is joined
+ * can be seen. */
 #ifndef CABJIRT_BOARD_VIEW_H
 #define CABJIRT_BOARD_VIEW_H
 
@@ -13,7 +14,7 @@
 enum {
     GUTTER = 5,          /* cells before the drawing, for "TOP", the track numbers and "BOT" */
     PIECE_WORDS = 96,
-    DRAWING_MOST = 2560  /* cells of the widest drawing, or more */
+    DRAWING_MOST = 2560  /* cells that are drawn of a line: as many as the widest drawing of one pitch has, or more */
 };
 
 enum look {
@@ -33,6 +34,7 @@ struct board_view {
     const bool *top_parked, *bot_parked; /* which of them are parked, or NULL for none */
     uint32_t marked_piece, marked_position; /* 0 for none */
     uint32_t pitch;
+    const size_t *edge; /* the cell after each column, from edge[1] on; or NULL where all have one pitch */
 };
 
 /* Opens a view without pins and marks. Answers false where the header has no width that a drawing could have. */
@@ -46,8 +48,10 @@ void board_view_parked(struct board_view *view, const bool *top, const bool *bot
 size_t board_view_cells(const struct board_view *view);
 size_t board_view_lines(const struct board_view *view);
 
-/* The last cell of a column, which has its copper; the line of a row. */
+/* The last cell of a column, which has its copper; the column of a cell, or the last if it is after all; the line of a
+ * row. */
 size_t board_view_cell_of(const struct board_view *view, size_t column);
+size_t board_view_column_at(const struct board_view *view, size_t cell);
 size_t board_view_line_of(const struct board_view *view, size_t row);
 
 /* Cells `from` up to `from + count` of a line, and of the line of column numbers that stands above the drawing. */

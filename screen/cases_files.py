@@ -110,6 +110,8 @@ def judging(s, folder):
     s.expect_line("J: the piece in words", MORE, "a trunk on track 2, columns 3 to 4")
     s.expect_start("J: what to do", MORE + 1, "What to do: take the piece out, or write the board again")
     s.expect("J: piece marked in the drawing", lambda: s.grid.cells_marked(DRAWING + 2), [16, 17, 18, 19, 20])
+    judge("b.board", "REFUSED 10 7  wrong board")
+    s.expect_lines("a wider board is drawn without pins", DRAWING, drawing(([0] * 7, [0] * 7), written(B), PITCH)[1:])
     (folder / "torn").write_bytes(boards["good"][:-1])
     judge("torn", "REFUSED 8 48  torn")
     (folder / "long").write_bytes(bytes(65537))
@@ -121,14 +123,10 @@ def judging(s, folder):
 def refused_files(s, folder):
     (folder / "wide").write_bytes(text_of(([0] * 513, [0] * 513)))
     (folder / "text").write_bytes(b"TOP" + b" 0" * 34998 + b"\n")
-    (folder / "returns").write_bytes(b"TOP 1 1\r\nBOT 0 0\r\n")
     s.type(LOAD + "text" + ENTER)
     s.expect_start("70,000 bytes", MESSAGE, "REFUSED 0 65536  too long: not loaded, text has more")
     s.type(LOAD + "." + ENTER)
     s.expect_line("a folder", MESSAGE, "cannot read .: not a regular file")
-    s.type(LOAD + "returns" + ENTER)
-    s.expect_start("carriage returns in a file", VERDICT, "REFUSED 2 7")
-    s.expect_line("the carriage return is shown and marked", TOP_MARKS, columns(2, sign="v"))
 
 
 def full_disk(folder):

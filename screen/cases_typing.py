@@ -48,7 +48,7 @@ def first_refusals(s):
     s.expect_start("a number due", VERDICT, "REFUSED 2 22  garbled: this is no pin list: the byte at offset 22")
     s.expect_start("a number due: where", MORE, "belong there (BOT column 4: the row ends where a number is due)")
     s.expect_line("a number due: mark", BOT_MARKS, " " * 21 + "^")
-    s.expect_start("a number due: what to do", DRAWING, "  What to do: write two lines, 'TOP' and 'BOT', one space")
+    s.expect_start("a number due: what to do", DRAWING, "  What to do: write two lines, 'TOP' and 'BOT', one or more")
     s.type("512")
     s.expect_start("high net", VERDICT, "REFUSED 5 8  high net: the net at pin position 8 is over 511")
     s.expect_line("high net: mark under BOT", BOT_MARKS, " " * 18 + "^^^")
@@ -199,6 +199,8 @@ def full_row(s):
     check("one too many: a bell", s.grid.bells, bells + 1)
     s.type(ERASE * 20 + paste("4" * 30))
     s.expect_line("a paste that has no room", MESSAGE, "the row is full: it holds 65536 bytes")
+    s.type(paste("TOP " + "0 " * 32768 + "\nBOT 1\n") + UP + END)
+    s.expect("32,769 columns, the last without a number", lambda: s.grid.line(RULER).split()[-1], "32768")
     s.type(UNDO * 50)
     s.expect_start("and undone", VERDICT, "Type the TOP row")
 

@@ -102,6 +102,15 @@ static void say_garbled(struct order *order, const char *path, const uint8_t *te
         verdict.place - start + 1);
 }
 
+/* What is told of a list with lines that end in CR LF, which nothing else on the screen shows. */
+static const char *ends_words(const struct pin_text *pins)
+{
+    static const char *const words[2][2] = {
+        {"", " (TOP ends in LF, BOT in CR LF)"}, {" (TOP ends in CR LF, BOT in LF)", " (lines end in CR LF)"},
+    };
+    return words[pins->rows[TOP_ROW].returns][pins->rows[BOT_ROW].returns];
+}
+
 enum outcome order_load(struct order *order, const char *path)
 {
     uint8_t text[INPUT_LIMIT];
@@ -123,7 +132,7 @@ enum outcome order_load(struct order *order, const char *path)
     }
     order->kept = order->pins;
     order_changed(order);
-    say(order, "loaded %s", path);
+    say(order, "loaded %s%s", path, ends_words(&order->pins));
     return OUTCOME_DONE;
 }
 
@@ -136,8 +145,9 @@ static enum outcome refused_first(struct order *order, const char *so)
     return OUTCOME_REFUSED;
 }
 
-/* Writes a file and says what came of it. */
-static enum outcome save(struct order *order, const char *path, const uint8_t *bytes, size_t length, bool replace)
+/* Writes a file and says what came of it, and `note` of a file that was written. */
+static enum outcome save(struct order *order, const char *path, const uint8_t *bytes, size_t length, bool replace,
+                         const char *note)
 {
     const char *why = "";
     enum file_outcome outcome = file_write(path, bytes, length, replace, &why);
@@ -149,7 +159,7 @@ static enum outcome save(struct order *order, const char *path, const uint8_t *b
         say(order, "cannot write %s: %s", path, why);
         return OUTCOME_FAILED;
     }
-    say(order, "saved %zu bytes as %s", length, path);
+    say(order, "saved %zu bytes as %s%s", length, path, note);
     return OUTCOME_DONE;
 }
 
@@ -158,13 +168,14 @@ enum outcome order_save_board(struct order *order, const char *path, bool replac
     const struct answer *answer = &order->answer;
     if (answer->verdict.refused)
         return refused_first(order, "there is no board to save");
-    return save(order, path, answer->board, answer_board_length(answer), replace);
+    return save(order, path, answer->board, answer_board_length(answer), replace, "");
 }
 
 enum outcome order_save_pins(struct order *order, const char *path, bool replace)
 {
     uint8_t text[TEXT_MOST];
-    enum outcome outcome = save(order, path, text, pin_text_compose(&order->pins, text), replace);
+    size_t length = pin_text_compose(&order->pins, text);
+    enum outcome outcome = save(order, path, text, length, replace, ends_words(&order->pins));
     if (outcome == OUTCOME_DONE)
         order->kept = order->pins;
     return outcome;

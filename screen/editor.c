@@ -37,11 +37,12 @@ static enum edit type_byte(struct editor *editor, struct pin_text *pins, uint8_t
     return EDIT_CHANGED;
 }
 
-static enum edit erase_before(struct editor *editor, struct pin_text *pins)
+/* A carriage return before the cursor may leave the row together with the byte. */
+static enum edit erase(struct editor *editor, struct pin_text *pins, size_t cell)
 {
-    if (editor->cell == 0)
+    if (!row_remove(&pins->rows[editor->row], cell))
         return EDIT_MOVED;
-    row_remove(&pins->rows[editor->row], --editor->cell);
+    move_to(editor, pins, cell);
     return EDIT_CHANGED;
 }
 
@@ -54,17 +55,16 @@ static enum edit clear_row(struct editor *editor, struct pin_text *pins)
 
 enum edit editor_key(struct editor *editor, struct pin_text *pins, int key)
 {
-    struct row_text *row = &pins->rows[editor->row];
     switch (key) {
     case K_LEFT: return move_to(editor, pins, editor->cell > 0 ? editor->cell - 1 : 0);
     case K_RIGHT: return move_to(editor, pins, editor->cell + 1);
     case K_HOME: case CONTROL('A'): return move_to(editor, pins, 0);
-    case K_END: case CONTROL('E'): return move_to(editor, pins, row->length);
+    case K_END: case CONTROL('E'): return move_to(editor, pins, pins->rows[editor->row].length);
     case K_UP: return change_row(editor, pins, TOP_ROW);
     case K_DOWN: return change_row(editor, pins, BOT_ROW);
     case K_TAB: case K_ENTER: return change_row(editor, pins, 1 - editor->row);
-    case K_BACKSPACE: return erase_before(editor, pins);
-    case K_DELETE: return row_remove(row, editor->cell) ? EDIT_CHANGED : EDIT_MOVED;
+    case K_BACKSPACE: return editor->cell > 0 ? erase(editor, pins, editor->cell - 1) : EDIT_MOVED;
+    case K_DELETE: return erase(editor, pins, editor->cell);
     case CONTROL('U'): return clear_row(editor, pins);
     default: break;
     }

@@ -3,9 +3,10 @@
 #include <stdlib.h>
 #include <string.h>
 
-/* In one row, from a cell on, old bytes that gave way to new ones. */
+/* In one row, from a cell on, old bytes that gave way to new ones; and how its line ended, and ends. */
 struct patch {
     size_t at, old_length, new_length;
+    bool old_returns, new_returns;
 };
 
 struct change {
@@ -38,6 +39,16 @@ void history_forget(struct history *history)
     forget_all(&history->future);
 }
 
+static bool changes_end(const struct patch *patch)
+{
+    return patch->old_returns != patch->new_returns;
+}
+
+static bool changes_row(const struct patch *patch)
+{
+    return patch->old_length + patch->new_length > 0 || changes_end(patch);
+}
+
 /* The least patch: what two rows share at both ends stays out. */
 static struct patch patch_of(const struct row_text *before, const struct row_text *after)
 {
@@ -46,23 +57,26 @@ static struct patch patch_of(const struct row_text *before, const struct row_tex
         start++;
     while (end < shorter - start && before->bytes[before->length - 1 - end] == after->bytes[after->length - 1 - end])
         end++;
-    return (struct patch){start, before->length - start - end, after->length - start - end};
+    return (struct patch){start, before->length - start - end, after->length - start - end, before->returns,
+                          after->returns};
 }
 
-static bool is_one_digit(const struct change *change, int row)
+/* Whether a change is nothing but bytes put into one row. */
+static bool only_types(const struct change *change, int row)
 {
-    const struct patch *patch = &change->patches[row];
-    return change->size == 1 && patch->new_length == 1 && change->bytes[0] != ' ';
+    const struct patch *patches = change->patches;
+    return change->size > 0 && change->size == patches[row].new_length && !changes_end(&patches[TOP_ROW]) &&
+           !changes_end(&patches[BOT_ROW]);
 }
 
-/* Adds a digit to the change before it if that ends just there and only typed digits. Answers whether it did. */
+/* Adds a digit to the change before it if that only typed, and ends just there. Answers whether it did. */
 static bool join(struct history *history, const struct change *digit, int row)
 {
     struct change *last = history->past;
-    if (last == NULL || !is_one_digit(digit, row))
+    if (last == NULL || !only_types(last, row) || !only_types(digit, row) || digit->size > 1 || digit->bytes[0] == ' ')
         return false;
-    struct patch *typed = &last->patches[row];
-    if (last->size == 0 || last->size != typed->new_length || typed->at + typed->new_length != digit->patches[row].at)
+    const struct patch *typed = &last->patches[row];
+    if (typed->at + typed->new_length != digit->patches[row].at)
         return false;
     struct change *longer = realloc(last, sizeof *last + last->size + 1);
     if (longer == NULL)
@@ -109,13 +123,11 @@ static struct change *change_of(const struct pin_text *before, const struct pin_
 
 void history_note(struct history *history, const struct pin_text *before, const struct pin_text *after)
 {
+    if (pin_text_same(before, after))
+        return;
     struct change *change = change_of(before, after);
     if (change == NULL) {
         history_forget(history);
-        return;
-    }
-    if (change->size == 0) {
-        free(change);
         return;
     }
     forget_all(&history->future);
@@ -143,7 +155,7 @@ static struct text_place apply(const struct change *change, struct pin_text *pin
     struct text_place where = {TOP_ROW, 0};
     const uint8_t *bytes = change->bytes;
     for (int r = ROWS - 1; r >= 0; r--)
-        if (change->patches[r].old_length + change->patches[r].new_length > 0)
+        if (changes_row(&change->patches[r]))
             where.row = r;
     for (int r = 0; r < ROWS; r++) {
         const struct patch *patch = &change->patches[r];
@@ -151,6 +163,7 @@ static struct text_place apply(const struct change *change, struct pin_text *pin
         size_t gone = forwards ? patch->old_length : patch->new_length;
         size_t length = forwards ? patch->new_length : patch->old_length;
         swap_bytes(&pins->rows[r], patch->at, gone, forwards ? new_bytes : old_bytes, length);
+        pins->rows[r].returns = forwards ? patch->new_returns : patch->old_returns;
         if (r == where.row)
             where.cell = patch->at + length;
         bytes = new_bytes + patch->new_length;

@@ -1,4 +1,4 @@
-/* history.h: the changes of the two rows, so that each can be undone and done again. */
+/* history.h: the changes of the two rows, also of how their lines end, so that each can be undone and done again. */
 #ifndef CABJIRT_HISTORY_H
 #define CABJIRT_HISTORY_H
 

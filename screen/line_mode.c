@@ -5,7 +5,7 @@
 
 #include "line_print.h"
 
-enum { LINE_MOST = ROW_LABEL + ROW_LIMIT };
+enum { LINE_MOST = ROW_LABEL + ROW_LIMIT + 1 }; /* with a carriage return at the end */
 
 static const char help[] =
     "TOP n n ..         sets the TOP row, one number a column, 0 for no pin\n"
@@ -19,13 +19,15 @@ static const char help[] =
     "judge FILE         judges a board file against the list\n"
     "help               prints this\n"
     "quit               ends\n"
+    "Lines may end in CR LF; a row that is set so is saved so.\n"
     "In the answers p marks a parked pin: its number stands just once, and it gets no copper.\n"
     "The exit status is 1 if any command or list was refused or a board is faulty, else 0.\n";
 
-/* One line of input without its line feed. */
+/* One line of input without its end. */
 struct line {
     char text[LINE_MOST + 1];
     size_t length;
+    bool returns;  /* it ended in CR LF, else in LF */
     bool too_long; /* the rest of the line was read and dropped */
 };
 
@@ -42,6 +44,8 @@ static bool read_line(struct line *line)
         else
             line->too_long = true;
     }
+    line->returns = line->length > 0 && line->text[line->length - 1] == '\r';
+    line->length -= line->returns;
     line->text[line->length] = '\0';
     return true;
 }
@@ -135,12 +139,14 @@ static bool run_on_file(struct order *order, const struct file_command *command,
     return command->run(order, path, number);
 }
 
+/* The row's line ends as the command's does. */
 static bool set_row(struct order *order, const struct line *line, unsigned long number)
 {
-    int row = memcmp(line->text, "TOP ", ROW_LABEL) == 0 ? TOP_ROW : BOT_ROW;
-    if (line->too_long)
+    struct row_text *row = &order->pins.rows[memcmp(line->text, "TOP ", ROW_LABEL) == 0 ? TOP_ROW : BOT_ROW];
+    const uint8_t *bytes = (const uint8_t *)line->text + ROW_LABEL;
+    if (line->too_long || !row_set(row, bytes, line->length - ROW_LABEL))
         return complain(number, "REFUSED 0 65536  not taken: a row of more than 65536 bytes is ", refusal_word(0));
-    row_set(&order->pins.rows[row], (const uint8_t *)line->text + ROW_LABEL, line->length - ROW_LABEL);
+    row->returns = line->returns;
     order_changed(order);
     return true;
 }

@@ -39,6 +39,10 @@ def expect_rows(s, what, top, bot):
     s.expect_lines(what, TOP_LINE, [row("TOP", top), row("BOT", bot)])
 
 
+def expect_cursor(s, what, y, x):
+    s.expect(what, lambda: (s.grid.y, s.grid.x), (y, x))
+
+
 def leave(s, what, status=0):
     """Quits, also with a list that is not saved."""
     s.type(QUIT + "y")

@@ -18,8 +18,9 @@ void paste_begin(struct paste *paste);
 /* Takes a byte of the text; ends at its end, or at an Escape. */
 void paste_key(struct paste *paste, int key);
 
-/* Puts the text into the rows. Lines end in LF, CR or CR LF, and a tab counts as a space. Two lines, with their labels
- * or without, replace both rows; one with a label replaces its row; one without is typed at the cursor. */
+/* Puts the text into the rows. How its lines end, LF, CR or CR LF, is the terminal's choice and changes no row's end; a
+ * tab counts as a space. Two lines, with their labels or without, replace both rows; one with a label replaces its row;
+ * one without is typed at the cursor. */
 enum edit paste_into_rows(struct paste *paste, struct editor *editor, struct pin_text *pins);
 
 /* The text up to its first line end, as a string. */

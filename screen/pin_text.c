@@ -15,12 +15,22 @@ bool row_insert(struct row_text *row, size_t cell, uint8_t byte)
     return true;
 }
 
+/* A carriage return that stands last, with the line feed after it, is part of the line's end. One more is not. */
+static void take_return(struct row_text *row)
+{
+    if (row->returns || row->length == 0 || row->bytes[row->length - 1] != '\r')
+        return;
+    row->length--;
+    row->returns = true;
+}
+
 bool row_remove(struct row_text *row, size_t cell)
 {
     if (cell >= row->length)
         return false;
     row->length--;
     memmove(row->bytes + cell, row->bytes + cell + 1, row->length - cell);
+    take_return(row);
     return true;
 }
 
@@ -36,8 +46,11 @@ bool row_set(struct row_text *row, const uint8_t *bytes, size_t length)
 /* The word that begins at a cell. */
 static struct word word_from(const struct row_text *row, size_t column, size_t first)
 {
-    const uint8_t *space = first < row->length ? memchr(row->bytes + first, ' ', row->length - first) : NULL;
-    return (struct word){column, first, space == NULL ? row->length : (size_t)(space - row->bytes)};
+    size_t number = first;
+    while (number < row->length && row->bytes[number] == ' ')
+        number++;
+    const uint8_t *space = memchr(row->bytes + number, ' ', row->length - number);
+    return (struct word){column, first, number, space == NULL ? row->length : (size_t)(space - row->bytes)};
 }
 
 bool row_next_word(const struct row_text *row, struct word *word)
@@ -66,17 +79,21 @@ bool row_word_of(const struct row_text *row, size_t column, struct word *word)
 
 void row_find_numbers(const struct row_text *row, struct row_numbers *numbers)
 {
+    struct word word = row_word_at(row, 0);
     numbers->count = 0;
-    for (size_t i = 0, start = 0; i <= row->length; i++) {
-        if (i < row->length && row->bytes[i] != ' ')
-            continue;
-        if (i > start && numbers->count < NUMBERS_MOST) {
-            numbers->first[numbers->count] = start;
-            numbers->last[numbers->count] = i - 1;
+    do {
+        bool found = word.number < word.end;
+        if (found && numbers->count < NUMBERS_MOST) {
+            numbers->first[numbers->count] = word.number;
+            numbers->last[numbers->count] = word.end - 1;
         }
-        numbers->count += i > start;
-        start = i + 1;
-    }
+        numbers->count += found;
+    } while (row_next_word(row, &word));
+}
+
+static const char *line_end(const struct row_text *row)
+{
+    return row->returns ? "\r\n" : "\n";
 }
 
 size_t pin_text_compose(const struct pin_text *pins, uint8_t text[TEXT_MOST])
@@ -87,7 +104,8 @@ size_t pin_text_compose(const struct pin_text *pins, uint8_t text[TEXT_MOST])
         memcpy(text + length, labels[r], ROW_LABEL);
         memcpy(text + length + ROW_LABEL, row->bytes, row->length);
         length += ROW_LABEL + row->length;
-        text[length++] = '\n';
+        for (const char *byte = line_end(row); *byte != '\0'; byte++)
+            text[length++] = (uint8_t)*byte;
     }
     return length;
 }
@@ -106,14 +124,18 @@ bool pin_text_take(struct pin_text *pins, const uint8_t *text, size_t length)
     }
     if (at != length || lengths[TOP_ROW] > ROW_LIMIT || lengths[BOT_ROW] > ROW_LIMIT)
         return false;
-    for (int r = 0; r < ROWS; r++)
+    for (int r = 0; r < ROWS; r++) {
         row_set(&pins->rows[r], lines[r], lengths[r]);
+        pins->rows[r].returns = false;
+        take_return(&pins->rows[r]);
+    }
     return true;
 }
 
 static bool row_same(const struct row_text *one, const struct row_text *other)
 {
-    return one->length == other->length && memcmp(one->bytes, other->bytes, one->length) == 0;
+    return one->length == other->length && memcmp(one->bytes, other->bytes, one->length) == 0 &&
+           one->returns == other->returns;
 }
 
 bool pin_text_same(const struct pin_text *one, const struct pin_text *other)
@@ -129,7 +151,7 @@ bool pin_text_empty(const struct pin_text *pins)
 struct text_place pin_text_place(const struct pin_text *pins, size_t offset)
 {
     size_t lengths[ROWS] = {pins->rows[TOP_ROW].length, pins->rows[BOT_ROW].length};
-    size_t second = ROW_LABEL + lengths[TOP_ROW] + 1;
+    size_t second = ROW_LABEL + lengths[TOP_ROW] + strlen(line_end(&pins->rows[TOP_ROW]));
     struct text_place place = {offset < second ? TOP_ROW : BOT_ROW, offset < second ? offset : offset - second};
     place.cell = place.cell < ROW_LABEL ? 0 : place.cell - ROW_LABEL;
     if (place.cell > lengths[place.row])

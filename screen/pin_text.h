@@ -10,16 +10,18 @@ enum {
     TOP_ROW,
     BOT_ROW,
     ROWS,
-    ROW_LABEL = 4,                                  /* "TOP " and "BOT ", which nobody edits */
-    ROW_LIMIT = 65536,                              /* bytes that a row may hold after its label */
-    TEXT_MOST = ROWS * (ROW_LABEL + ROW_LIMIT + 1), /* bytes of the longest text that two rows make */
-    NUMBERS_MOST = 513                              /* numbers whose cells are noted: with the first that is too many */
+    ROW_LABEL = 4,     /* "TOP " and "BOT ", which nobody edits */
+    ROW_LIMIT = 65536, /* bytes that a row may hold after its label */
+    ROW_END = 2,       /* CR LF, the longer line end */
+    TEXT_MOST = ROWS * (ROW_LABEL + ROW_LIMIT + ROW_END), /* bytes of the longest text that two rows make */
+    NUMBERS_MOST = 513 /* numbers whose cells are noted: with the first that is too many */
 };
 
-/* What stands after a label, up to the line feed. A cell is an index into the bytes; that at `length` is the end. */
+/* What stands after a label, up to the line's end. A cell is an index into the bytes; that at `length` is the end. */
 struct row_text {
     uint8_t bytes[ROW_LIMIT];
     size_t length;
+    bool returns; /* the line ends in CR LF, else in LF */
 };
 
 struct pin_text {
@@ -46,17 +48,21 @@ struct row_numbers {
 
 extern const char *const row_names[ROWS];
 
-/* Each of these answers whether it could: a full row takes no byte, and a cell past the end has none. */
+/* Each of these answers whether it could: a full row takes no byte, and a cell past the end has none. The line's end
+ * stays as it is, unless a removed byte leaves a carriage return before its line feed. */
 bool row_insert(struct row_text *row, size_t cell, uint8_t byte);
 bool row_remove(struct row_text *row, size_t cell);
 bool row_set(struct row_text *row, const uint8_t *bytes, size_t length);
 
-/* What stands between two spaces, be it nothing: cells `first` up to `end`, where the space or the row's end is. */
+/* What stands in a column. The label, or the first space after the column before, parts it from that; further spaces are
+ * its pads, cells `first` up to `number`; from there its number goes, be it nothing, up to `end`, where the next space
+ * or the row's end is. */
 struct word {
-    size_t column, first, end;
+    size_t column, first, number, end;
 };
 
-/* The word that a cell belongs to or ends, as far as spaces tell; and the word of a column, if the row goes so far. */
+/* The word that a cell belongs to or ends, as far as spaces tell; and the word of a column, if the row goes so far.
+ * Every row has a first word, and only the last one may lack a number. */
 struct word row_word_at(const struct row_text *row, size_t cell);
 bool row_word_of(const struct row_text *row, size_t column, struct word *word);
 

@@ -48,18 +48,20 @@ static void mark_number(struct finding *finding, const struct row_numbers *numbe
         add_mark(finding, row, column, numbers[row].first[column - 1], numbers[row].last[column - 1]);
 }
 
+/* What stands at a row's end does not belong there if a number is due, or if it is a second carriage return. */
 static void find_garbled(const struct pin_text *pins, uint32_t offset, struct finding *finding)
 {
     struct text_place at = pin_text_place(pins, offset);
     const struct row_text *row = &pins->rows[at.row];
     size_t column = row_word_at(row, at.cell).column;
+    bool after_return = at.cell > 0 && row->bytes[at.cell - 1] == '\r';
     add_mark(finding, at.row, column, at.cell, at.cell);
-    if (at.cell == row->length)
+    if (at.cell == row->length && !after_return)
         snprintf(finding->where, WORDS_MOST, "%s column %zu: the row ends where a number is due", row_names[at.row],
                  column);
     else
-        snprintf(finding->where, WORDS_MOST, "%s column %zu, character %zu of the row", row_names[at.row], column,
-                 at.cell + 1);
+        snprintf(finding->where, WORDS_MOST, "%s column %zu, character %zu of the row%s", row_names[at.row], column,
+                 at.cell + 1, after_return ? ", after a carriage return" : "");
 }
 
 static void find_too_wide(const struct row_numbers *numbers, uint32_t column, struct finding *finding)

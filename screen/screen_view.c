@@ -116,8 +116,10 @@ void screen_follow_fault(struct screen *screen)
         column = (view.marked_position - 1) % view.width + 1;
     else if (view.marked_piece != 0)
         board_view_piece_place(&view, view.marked_piece, &line, &column);
-    if (column >= 1 && column <= view.width)
-        bring_in(screen, (column - 1) * COLUMN_CELLS, column * COLUMN_CELLS - 1);
+    if (column >= 1 && column <= view.width) {
+        size_t copper = board_view_cell_of(&view, column);
+        bring_in(screen, copper + 1 - COLUMN_CELLS, copper);
+    }
     screen->scroll_down = line > shown / 2 ? line - shown / 2 : 0;
 }
 

@@ -16,7 +16,7 @@ bool view_board_of(const struct screen *screen, struct board_view *view)
 {
     if (!order_view(screen->order, view))
         return false;
-    view->pitch = COLUMN_CELLS;
+    view->edge = screen->columns.edge;
     return true;
 }
 

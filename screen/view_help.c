@@ -1,7 +1,7 @@
 #include "views.h"
 
 static const char *const help[] = {
-    "Digits, space   the net of each pin, one space between two; 0 for no pin",
+    "Digits, space   the net of each pin, spaces between two; 0 for no pin",
     "Tab Enter Up Dn the other row, same column",
     "Left Right Home End Backspace Delete   in the row;  ^U clears it",
     "F5 or ^_ undo   F6 or ^Y redo",

@@ -39,6 +39,19 @@ static void put_cell(const struct screen *screen, int row, int y, int marks_y, s
         put(screen, marks_y, x, L'p', STYLE_PARKED);
 }
 
+/* The cells of a word that are in sight, and the space or the row's end after it, at the right edge of its column. */
+static void put_word(const struct screen *screen, int row, int y, int marks_y, const struct word *word)
+{
+    size_t edge = screen->columns.edge[word->column], left = screen->scroll_across;
+    size_t cell = word->first, x = edge - (word->end - word->first);
+    if (x < left) {
+        cell += left - x;
+        x = left;
+    }
+    for (; cell <= word->end && x - left < view_cells(); cell++, x++)
+        put_cell(screen, row, y, marks_y, cell, x);
+}
+
 /* Signs beside the cells shown, that a row or its marks go on there. */
 static void put_signs(const struct screen *screen, int y, size_t first, size_t last, enum style style)
 {
@@ -63,14 +76,12 @@ void view_row(const struct screen *screen, int row, int y, int marks_y)
 {
     const struct order *order = screen->order;
     const struct row_text *text = &order->pins.rows[row];
-    const size_t *edge = screen->columns.edge;
     struct word word = row_word_at(text, 0);
     size_t end = screen->scroll_across + view_cells();
     paint_text(y, 0, GUTTER, row_names[row], STYLE_STRONG);
-    do {
-        for (size_t cell = word.first; cell <= word.end && edge[word.column] >= screen->scroll_across; cell++)
-            put_cell(screen, row, y, marks_y, cell, edge[word.column] - (word.end - cell));
-    } while (edge[word.column] < end && row_next_word(text, &word));
+    do
+        put_word(screen, row, y, marks_y, &word);
+    while (screen->columns.edge[word.column] < end && row_next_word(text, &word));
     if (text->length > 0)
         put_signs(screen, y, columns_x(&screen->columns, text, 0), columns_x(&screen->columns, text, text->length - 1),
                   STYLE_DIM);
@@ -97,9 +108,7 @@ void view_ruler(const struct screen *screen, const struct board_view *view)
     if (view != NULL && view->width > last)
         last = view->width;
     paint_text(LINE_RULER, 0, GUTTER, "col", STYLE_DIM);
-    for (size_t k = 1, edge = 0; k <= last && edge < end + 2 * COLUMN_CELLS; k++) {
-        edge = k <= columns->count ? columns->edge[k] : edge + COLUMN_CELLS;
-        if (edge > screen->scroll_across)
-            put_column(screen, k, edge, k == here ? STYLE_BAR : STYLE_DIM);
-    }
+    for (size_t k = 1; k <= last && columns->edge[k - 1] < end + 2 * COLUMN_CELLS; k++)
+        if (columns->edge[k] > screen->scroll_across)
+            put_column(screen, k, columns->edge[k], k == here ? STYLE_BAR : STYLE_DIM);
 }

@@ -25,8 +25,8 @@ static void put_part(const struct screen *screen, const struct board_view *view,
     size_t cells = view_cells(), lines = view_lines();
     if (cells >= board_view_cells(view) && lines >= board_view_lines(view))
         return;
-    size_t left = screen->scroll_across / COLUMN_CELLS + 1, right = (screen->scroll_across + cells) / COLUMN_CELLS;
-    right = right < view->width ? right : view->width;
+    size_t left = board_view_column_at(view, screen->scroll_across);
+    size_t right = board_view_column_at(view, screen->scroll_across + cells - 1);
     int length = snprintf(text, sizeof text, "  columns %zu to %zu of %u ", left, right, view->width);
     size_t high = view->tracks + 1 - (view_line_shown(screen, view, 1) + 1) / 2;
     size_t low = view->tracks + 1 - view_line_shown(screen, view, lines - 2) / 2;
@@ -87,7 +87,7 @@ void view_hints(const struct screen *screen)
     static const char *const hints[] = {
         "A pin list has two rows of the same length, of up to 512 columns.",
         "Each number is the net of a pin, 1 to 511, or 0 where there is no pin.",
-        "One space parts two numbers.",
+        "A space parts two numbers; more of them pad a number into its column.",
         "A number that stands just once parks its pin, which gets no copper.",
     };
     char text[MESSAGE_MOST];

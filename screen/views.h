@@ -13,8 +13,8 @@ enum {
     REMEDY_LINES = 6 /* after a ring: what to do about it, at most so long */
 };
 
-/* The lines of the drawing; the cells of rows and drawing, whole columns only: half a number would be another number.
- * The cell after them is kept for a sign that a row goes on. */
+/* The lines of the drawing; the cells of rows and drawing, in fours as columns are: half a number would be another
+ * number. The cell after them is kept for a sign that a row goes on. */
 size_t view_lines(void);
 size_t view_cells(void);
 
