@@ -12,10 +12,9 @@ struct text {
  * Answers whether there is one. */
 static bool read_number(const struct text *text, size_t *at, uint32_t *value)
 {
+    while (*at < text->length && text->bytes[*at] == ' ')
+        ++*at;
     size_t next = *at;
-    while (next < text->length && text->bytes[next] == ' ')
-        next++;
-    *at = next;
     if (next >= text->length)
         return false;
     uint8_t digit = text->bytes[next];
