@@ -1,10 +1,10 @@
 -- What the parts of the reader's code answer, over the automaton of Reader.
-use Prim.Native.Nat.{ℕ, suc, _+_, _-_, _*_, _≤_, min}
+use Prim.Native.Nat.{ℕ, suc, _+_, _-_, _*_, _≤_, _<_, min}
 use mathlib.Core.Path.{_≡_}
 use mathlib.Core.List.{List, [], _∷_, map}
 use mathlib.Core.Bool.{cond}
 use mathlib.Core.Logic.{_↔_}
-use lib.ListN.{length, take, drop}
+use lib.ListN.{length, getD, take, drop}
 use lib.Dec.{eqb}
 use Rattle.lists.specs.Lists.{within, overlay}
 use Rattle.refusal.specs.declared.Refusal.the-variants.{Garbled}
@@ -50,9 +50,17 @@ unfoldable pub spacesEnd : ℕ → List ℕ → ℕ
 spacesEnd k [] = k
 spacesEnd k (b ∷ bs) = let r = spacesEnd (suc k) bs in cond (eqb b 0x20) r k
 
--- 02, Req 01: "The number reader therefore answers from the end of a run of spaces"
+-- what it means: from k on just spaces stand up to e, and none stands there
+pub record RunOfSpaces (text : List ℕ) (k e : ℕ) : Type 0 where
+  pub later : k ≤ e
+  pub spaces : (i : ℕ) → k ≤ i → i < e → getD text i 0 ≡ 0x20
+  pub no-more : e < length text → getD text e 0 ≡ 0x20 → ⊥
+
+-- 02, Req 01: "The number reader therefore answers from the end of a run of spaces". Rules out: a place inside the run
+-- (run); a number that begins elsewhere (number).
 pub record NumberFound (text : List ℕ) (at : ℕ) (r : NumberAt) : Type 0 where
   pub from : r .from ≡ spacesEnd at (drop at text)
+  pub run : RunOfSpaces text at (r .from)
   pub number : r .number ≡ numberRead text (r .from)
 
 -- how many bytes of the word stand at the front of the text

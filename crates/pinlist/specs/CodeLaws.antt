@@ -2,14 +2,15 @@
 -- text.
 use Prim.Native.Nat.{ℕ, zero, suc, _+_, _-_, _*_, _≤_, _<_}
 use native.Mathlib.Omega.{arith}
+use native.Mathlib.Decide.{decLe}
 use native.Mathlib.Numerals.{add-one}
 use native.Mathlib.Nat.{add-suc, add-zero, zero-add}
 use mathlib.Core.Path.{_≡_, refl, sym, _∙_, ap, subst}
 use mathlib.Core.List.{List, [], _∷_, _++_}
 use mathlib.Core.Bool.{Bool, true, false, cond}
-use lib.ListN.{length, getD, drop, drop-of-length-le}
+use lib.ListN.{length, getD, drop, drop-of-length-le, length-drop}
 use lib.Seq.{drop-cons}
-use lib.Dec.{eqb}
+use lib.Dec.{eqb, eqb→eq}
 use borrow.Author.Tests.{eq-eqb, ne-eqb}
 use Rattle.lists.specs.Lists.{within}
 use Rattle.lists.specs.Tests.{T→true, true→T, fails→false, within→, →within}
@@ -18,8 +19,8 @@ use Rattle.pinlist.specs.declared.number.NumberRead.the-variants as numb
 use Rattle.pinlist.specs.declared.line.LineRead.the-variants as line
 use Rattle.pinlist.specs.Reader.{Stand, due, zeroRead, digits, returned, LineStep, on, closed, stuck}
 use Rattle.pinlist.specs.Reader.{afterNumber, firstDigit, lineStep}
-use Rattle.pinlist.specs.Code.{kept, digitsBehind, numberFrom, numberRead, spacesEnd, shared, Lined, lined, broken}
-use Rattle.pinlist.specs.Code.{lineFrom, feedRead, lineRead}
+use Rattle.pinlist.specs.Code.{kept, digitsBehind, numberFrom, numberRead, spacesEnd, RunOfSpaces, shared}
+use Rattle.pinlist.specs.Code.{Lined, lined, broken, lineFrom, feedRead, lineRead}
 
 -- the test for a byte between two others, by what it tells
 inside-true : (a x b : ℕ) → a ≤ x → x ≤ b → within a x b ≡ true
@@ -288,16 +289,48 @@ pub number-tells : (text ns : List ℕ) (k : ℕ)
     (numberRead text (spacesEnd k (drop k text)))
 number-tells text ns k = found-from text ns k (drop k text) refl
 
-pub spaces-later : (k : ℕ) (bs : List ℕ) → k ≤ spacesEnd k bs
-unfolding spacesEnd
-spaces-later k [] = omega arith
-spaces-later k (b ∷ bs) = go (eqb b 32) (spaces-later (suc k) bs)
-  where
-    go : (t : Bool) → suc k ≤ spacesEnd (suc k) bs → k ≤ cond t (spacesEnd (suc k) bs) k
-    go true h = omega arith
-    go false h = omega arith
+-- the place behind the spaces is the end of their run
+here : (text : List ℕ) (k b : ℕ) (bs : List ℕ) → drop k text ≡ b ∷ bs → getD text k 0 ≡ b
+here text k b bs q = let r = drop-cons text k 0 (drop-inside text k b bs q) in cc
 
--- a run of spaces, from the tests that the code makes of its bytes
+run-from : (text : List ℕ) (k : ℕ) (bs : List ℕ) → drop k text ≡ bs → RunOfSpaces text k (spacesEnd k bs)
+unfolding spacesEnd
+run-from text k [] q =
+    record {
+      later = omega arith;
+      spaces = λ i l u. absurd (omega arith);
+      no-more = λ h e. let z = length-drop k text in let n = ap length q in absurd (omega arith);
+    }
+run-from text k (b ∷ bs) q = go (eqb b 32) refl (run-from text (suc k) bs (drop-next text k b bs q))
+  where
+    go : (t : Bool) → eqb b 32 ≡ t → RunOfSpaces text (suc k) (spacesEnd (suc k) bs)
+        → RunOfSpaces text k (cond t (spacesEnd (suc k) bs) k)
+    go true t more =
+        let h = more .later in
+        record {
+          later = omega arith;
+          spaces = λ i l u. elim (decLe (suc k) i) [
+            | yes g ↦ more .spaces i g u
+            | no g ↦
+                let e : k ≡ i = omega arith in
+                subst (λ (j : ℕ). getD text j 0 ≡ 32) e (here text k b bs q ∙ eqb→eq b 32 (true→T (eqb b 32) t))
+          ];
+          no-more = more .no-more;
+        }
+    go false t more =
+        record {
+          later = omega arith;
+          spaces = λ i l u. absurd (omega arith);
+          no-more = λ h e.
+              let s = eq-eqb b 32 (sym (here text k b bs q) ∙ e) in
+              let z : _≡_ {A = ℕ} 0 1 = cc in
+              omega arith;
+        }
+
+pub spaces-run : (text : List ℕ) (k : ℕ) → RunOfSpaces text k (spacesEnd k (drop k text))
+spaces-run text k = run-from text k (drop k text) refl
+
+-- the same, from the tests that the code makes of its bytes
 pub spaces-none : (text : List ℕ) (k : ℕ) → length text ≤ k → spacesEnd k (drop k text) ≡ k
 unfolding spacesEnd
 spaces-none text k h = rw (drop-of-length-le text h)

@@ -21,7 +21,6 @@ use Rattle.pinlist.specs.CodeLaws.{
   Standing,
   behind,
   number-tells,
-  spaces-later,
   behind-end,
   behind-feed,
   behind-return,
@@ -86,9 +85,6 @@ module _ (text : List ℕ) (from : ℕ) (row₀ : List ℕ) where
       subst (Tells text (s .numbers) (r .from) (lineFrom (due []) (s .numbers) at (drop at text))) e
       (told row at count s f)
 
-  found-later : (at : ℕ) {r : NumberAt} → NumberFound text at r → at ≤ r .from
-  found-later at f = rw (f .from) (spaces-later at (drop at text))
-
   extended : (row row′ : List ℕ) (at count v next : ℕ) (s : SoFar text from row₀ row at count) → length row₀ ≡ widest
       → row′ ≡ set row count v → {begins : ℕ} → at ≤ begins
       → Standing text (s .numbers) begins (lineFrom (due []) (s .numbers) at (drop at text)) v next
@@ -109,12 +105,12 @@ module _ (text : List ℕ) (from : ℕ) (row₀ : List ℕ) where
       → row′ ≡ set row count v → {r : NumberAt} → NumberFound text at r → r .number ≡ number.Number v next
       → Behind text from row₀ row′ next (count + 1)
   number-read row row′ at count v next s e q f g =
-      extended row row′ at count v next s e q (found-later at f) (standing row at count v next s f g)
+      extended row row′ at count v next s e q (f .run .later) (standing row at count v next s f g)
 
   pub number-later : (row : List ℕ) (at count v next : ℕ) → SoFar text from row₀ row at count → {r : NumberAt}
       → NumberFound text at r → r .number ≡ number.Number v next → at < next
   number-later row at count v next s f g =
-      let h = found-later at f in
+      let h = f .run .later in
       let l = standing row at count v next s f g .later in
       omega arith
 
