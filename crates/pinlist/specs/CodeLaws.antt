@@ -189,6 +189,9 @@ drop-inside [] (suc k) b bs e = absurd (let z : _≡_ {A = ℕ} 0 1 = cc in omeg
 drop-inside (x ∷ xs) zero b bs e = omega arith
 drop-inside (x ∷ xs) (suc k) b bs e = let h = drop-inside xs k b bs e in omega arith
 
+drop-head : (text : List ℕ) (k b : ℕ) (bs : List ℕ) → drop k text ≡ b ∷ bs → getD text k 0 ≡ b
+drop-head text k b bs e = let r = drop-cons text k 0 (drop-inside text k b bs e) in cc
+
 -- behind digits that have the value n, kept as v: the exact number grows beside the kept one
 digits-tell : (text ns : List ℕ) (from v n k : ℕ) (bs : List ℕ) → v ≡ kept n → from < k → k ≤ length text
     → drop k text ≡ bs → Tells text ns from (lineFrom (digits n) ns k bs) (digitsBehind v k bs)
@@ -290,9 +293,6 @@ pub number-tells : (text ns : List ℕ) (k : ℕ)
 number-tells text ns k = found-from text ns k (drop k text) refl
 
 -- the place behind the spaces is the end of their run
-here : (text : List ℕ) (k b : ℕ) (bs : List ℕ) → drop k text ≡ b ∷ bs → getD text k 0 ≡ b
-here text k b bs q = let r = drop-cons text k 0 (drop-inside text k b bs q) in cc
-
 run-from : (text : List ℕ) (k : ℕ) (bs : List ℕ) → drop k text ≡ bs → RunOfSpaces text k (spacesEnd k bs)
 unfolding spacesEnd
 run-from text k [] q =
@@ -313,7 +313,7 @@ run-from text k (b ∷ bs) q = go (eqb b 32) refl (run-from text (suc k) bs (dro
             | yes g ↦ more .spaces i g u
             | no g ↦
                 let e : k ≡ i = omega arith in
-                subst (λ (j : ℕ). getD text j 0 ≡ 32) e (here text k b bs q ∙ eqb→eq b 32 (true→T (eqb b 32) t))
+                subst (λ (j : ℕ). getD text j 0 ≡ 32) e (drop-head text k b bs q ∙ eqb→eq b 32 (true→T (eqb b 32) t))
           ];
           no-more = more .no-more;
         }
@@ -322,7 +322,7 @@ run-from text k (b ∷ bs) q = go (eqb b 32) refl (run-from text (suc k) bs (dro
           later = omega arith;
           spaces = λ i l u. absurd (omega arith);
           no-more = λ h e.
-              let s = eq-eqb b 32 (sym (here text k b bs q) ∙ e) in
+              let s = eq-eqb b 32 (sym (drop-head text k b bs q) ∙ e) in
               let z : _≡_ {A = ℕ} 0 1 = cc in
               omega arith;
         }
