@@ -1,5 +1,6 @@
--- 01, "Bench examples (* proved)", and 02, Req 01 and Req 04: A to J come out of the definitions as the paper prints
--- them, padded lists with CR LF as Req 01 says, and channels with parked pins as Req 04 says, by one computed check.
+-- 01, "Bench examples (* proved)", and 02, Req 01 and Req 04: A to J, and K, come out of the definitions as the paper
+-- prints them, padded lists with CR LF as Req 01 says, and channels with parked pins as Req 04 says, by one computed
+-- check.
 use Prim.Native.Nat.{ℕ, zero, suc}
 use mathlib.Core.Path.{_≡_, refl}
 use mathlib.Core.List.{List, [], _∷_, _++_, map}

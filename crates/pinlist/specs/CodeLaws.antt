@@ -384,37 +384,22 @@ behind-return n ns text j h e =
       behind,
     )
 
--- behind a carriage return: the line as the automaton reads it is what the code answers
-pub returned-read : (ns : List ℕ) (k : ℕ) (bs : List ℕ)
-    → lineRead (lineFrom returned ns k bs) ≡ feedRead (length ns) k bs
+-- behind a carriage return the code answers what the automaton reads, and a line that ends has just the numbers so far
+pub returned-tells : (ns : List ℕ) (k : ℕ) (bs : List ℕ) → let l = lineFrom returned ns k bs in
+    (feedRead (length ns) k bs ≡ lineRead l) × ((row : List ℕ) (j : ℕ) → l ≡ lined row j → ns ≡ row)
 unfolding lineFrom lineStep lineRead feedRead
-returned-read ns k [] = refl
-returned-read ns k (b ∷ bs) = go (eqb b 10)
+returned-tells ns k [] = (refl, λ row j e. absurd (let z : _≡_ {A = ℕ} 0 1 = cc in omega arith))
+returned-tells ns k (b ∷ bs) = go (eqb b 10)
   where
-    go : (t : Bool) → lineRead (elim (cond t (closed ns) stuck) [
-      | on s′ ns′ ↦ lineFrom s′ ns′ (suc k) bs
-      | closed ns′ ↦ lined ns′ (suc k)
-      | stuck ↦
-          broken k
-    ]) ≡ cond t (line.Line (length ns) (suc k)) (line.Stuck k)
-    go true = refl
-    go false = refl
+    after : Bool → Lined
+    after t =
+        elim (cond t (closed ns) stuck)
+        [ on s′ ns′ ↦ lineFrom s′ ns′ (suc k) bs | closed ns′ ↦ lined ns′ (suc k) | stuck ↦ broken k ]
 
--- a line that ends there has just the numbers so far
-pub returned-row : (ns : List ℕ) (k : ℕ) (bs : List ℕ) {row : List ℕ} {j : ℕ} → lineFrom returned ns k bs ≡ lined row j
-    → ns ≡ row
-unfolding lineFrom lineStep
-returned-row ns k [] e = absurd (let z : _≡_ {A = ℕ} 0 1 = cc in omega arith)
-returned-row ns k (b ∷ bs) {row} {j} e = go (eqb b 10) e
-  where
-    go : (t : Bool) → elim (cond t (closed ns) stuck) [
-      | on s′ ns′ ↦ lineFrom s′ ns′ (suc k) bs
-      | closed ns′ ↦ lined ns′ (suc k)
-      | stuck ↦
-          broken k
-    ] ≡ lined row j → ns ≡ row
-    go true q = cc
-    go false q = absurd (let z : _≡_ {A = ℕ} 0 1 = cc in omega arith)
+    go : (t : Bool) → (cond t (line.Line (length ns) (suc k)) (line.Stuck k) ≡ lineRead (after t))
+        × ((row : List ℕ) (j : ℕ) → after t ≡ lined row j → ns ≡ row)
+    go true = (refl, λ row j e. cc)
+    go false = (refl, λ row j e. absurd (let z : _≡_ {A = ℕ} 0 1 = cc in omega arith))
 
 -- the line feed that is due, from the tests that the code makes
 pub feed-none : (text : List ℕ) (count k : ℕ) → length text ≤ k → feedRead count k (drop k text) ≡ line.Stuck k

@@ -26,8 +26,7 @@ use Rattle.pinlist.specs.CodeLaws.{
   behind-return,
   behind-space,
   behind-other,
-  returned-read,
-  returned-row,
+  returned-tells,
   word-passed,
   word-broken,
   shared-within,
@@ -155,13 +154,11 @@ module _ (text : List ℕ) (from : ℕ) (row₀ : List ℕ) where
       → getD text at 0 ≡ 13 → {r : LineRead} → r ≡ feedRead count (at + 1) (drop (at + 1) text)
       → LineDone [] text from row₀ r row
   carriage-return row at count b h e q =
-      let all = b .before ++ (b .number ∷ []) in
+      let told = returned-tells (b .before ++ (b .number ∷ [])) (suc at) (drop (suc at) text) in
       let goes = b .goes-on ∙ behind-return (b .number) (b .before) text at h e in
       record {
-        answer = q ∙ rw (goes, add-one, b .counted) (sym (returned-read all (suc at) (drop (suc at) text)));
-        held = λ ns j p.
-            subst (λ (l : List ℕ). Held l row₀ row)
-            (returned-row all (suc at) (drop (suc at) text) (sym goes ∙ p)) (b .held);
+        answer = q ∙ rw (goes, add-one, b .counted) (told .0);
+        held = λ ns j p. subst (λ (l : List ℕ). Held l row₀ row) (told .1 ns j (sym goes ∙ p)) (b .held);
       }
 
   -- a space, and the line goes on
