@@ -12,9 +12,11 @@ use lib.Dec.{leb, leb→le, le→leb}
 use Rattle.lists.specs.Lists.{greatest}
 use Rattle.lists.specs.Tests.{T→true, fails→false}
 use Rattle.lists.specs.Ends.{head-member}
-use Rattle.lists.specs.Pigeonhole.{pigeonhole}
+use Rattle.lists.specs.Pigeonhole.{pigeonhole, length-keep}
 use Rattle.lists.specs.Greatest.{greatest-map-upper, greatest-map-least, greatest-map-reached}
-use Rattle.channel.specs.Channel.{Channel, nets, spanning}
+use Rattle.lists.specs.Updates.{map-same}
+use Rattle.items.specs.Depths.{depthBy, Peeled, all-peeled, never-peeled}
+use Rattle.channel.specs.Channel.{Channel, nets, hasSpan, spanning}
 use Rattle.channel.specs.Constraints.{Above, below, Path↓, alone, down, depth, chain, Step, netsOf, Descends}
 use Rattle.channel.specs.Constraints.{last, next, Ring, Tangled}
 use Rattle.channel.specs.Answers.{Escapes}
@@ -144,6 +146,40 @@ module _ (ch : Channel) (esc : Escapes ch) where
         let deep = path≤depth (suc (length (nets ch))) p (omega arith) in
         let counted = greatest-map-upper (depth (suc (length (nets ch))) ch) (path-start-spans esc p) in
         omega arith
+
+-- the depth of a net is that of an item
+depth-by : (ch : Channel) (fuel n : ℕ) → depth fuel ch n ≡ depthBy (below ch) fuel n
+unfolding depth depthBy
+depth-by ch zero n = refl
+depth-by ch (suc fuel) n =
+    ap (λ (l : List ℕ). suc (greatest l)) (map-same _ _ (below ch n) (λ b m. depth-by ch fuel b))
+
+-- what the peeling of the nets with spans answers is the chain
+pub peeled-chain : (ch : Channel) (r : ℕ) → Peeled (below ch) (spanning ch) r → r ≡ chain ch
+unfolding spanning
+peeled-chain ch r (all-peeled few deep greatest-one) =
+    let a = most in let b = reached in let c = some in sym (chain-counts ch (omega arith) ∙ omega arith)
+  where
+    fuel : ℕ
+    fuel = suc (length (nets ch))
+
+    some : length (spanning ch) ≤ length (nets ch)
+    some = length-keep (hasSpan ch) (nets ch)
+
+    most : deepest ch ≤ r
+    most =
+        greatest-map-least (depth fuel ch) (spanning ch) r (λ n m. let d = deep n m in let l = d .1 in
+        let e = d .2 .steady fuel (omega (arith, some)) in omega (arith, depth-by ch fuel n))
+
+    reached : r ≤ deepest ch
+    reached =
+        ⊎-elim (λ z. omega arith) (λ d. let e = d .2 .steady fuel (omega (arith, some)) in
+        let g = greatest-map-upper (depth fuel ch) (d .1) in omega (arith, depth-by ch fuel (d .0))) greatest-one
+peeled-chain ch r (never-peeled z n m endless) =
+    let e = depth-by ch (suc (length (nets ch))) n in
+    let long = endless (suc (length (nets ch))) in
+    let g = greatest-map-upper (depth (suc (length (nets ch))) ch) m in
+    z ∙ sym (chain-overruns ch (omega arith))
 
 pub chain-promise : (ch : Channel) → Escapes ch → ChainPromise ch
 chain-promise ch esc =

@@ -1,15 +1,16 @@
 -- The density as a count of nets: it is the number of nets over some column, and no column has more.
 use Prim.Native.Nat.{ℕ, _≤_, _<_}
-use native.Mathlib.Omega.{arith}
-use mathlib.Core.Path.{_≡_, sym, _∙_}
+use mathlib.Core.Path.{_≡_, sym, _∙_, ap}
 use mathlib.Core.List.{List, List·Memᴰ}
 use lib.ListN.{length}
-use Rattle.lists.specs.Lists.{keep, upTo, within, Distinct}
+use Rattle.lists.specs.Lists.{keep, upTo, greatest, within, Distinct}
 use Rattle.lists.specs.Tests.{within→, →within}
-use Rattle.lists.specs.Members.{keep-member, kept, upTo-member, in-upTo}
+use Rattle.lists.specs.Members.{keep-member, kept, upTo-member}
 use Rattle.lists.specs.Ends.{keep-rising, rising-distinct}
 use Rattle.lists.specs.Ranges.{length-keep-map}
-use Rattle.lists.specs.Greatest.{greatest-map-upper, greatest-map-reached}
+use Rattle.lists.specs.Greatest.{greatest-map-reached}
+use Rattle.lists.specs.Updates.{map-same}
+use Rattle.items.specs.Density.{holding, densest}
 use Rattle.channel.specs.Channel.{Channel, width, firstColumn, lastColumn, spanning}
 use Rattle.channel.specs.Density.{Span, spansOver, spansOf, density}
 use Rattle.channel.specs.SpanLaws.{spanning-rising}
@@ -42,24 +43,19 @@ over-distinct ch c =
     rising-distinct (netsOver ch c) (keep-rising (λ n. within (firstColumn ch n) c (lastColumn ch n)) (spanning ch)
     (spanning-rising ch))
 
--- "Local density at a column counts the spans holding it"
-pub local-counts : (ch : Channel) (c : ℕ) → spansOver (spansOf ch) c ≡ length (netsOver ch c)
-unfolding spansOver spansOf netsOver
-local-counts ch c =
-    length-keep-map (λ (s : Span). within (s .first) c (s .last))
-    (λ n. record { first = firstColumn ch n; last = lastColumn ch n }) (spanning ch)
+-- the density is that of the nets with spans as items
+pub density-densest : (ch : Channel) → density ch ≡ densest (firstColumn ch) (lastColumn ch) (spanning ch) (width ch)
+unfolding density densest holding spansOver spansOf
+density-densest ch =
+    ap greatest (map-same _ _ (upTo (width ch)) (λ c m. length-keep-map (λ (s : Span). within (s .first) c (s .last))
+    (λ n. record { first = firstColumn ch n; last = lastColumn ch n }) (spanning ch)))
 
 pub density-reached : (ch : Channel) → 0 < density ch
     → (c : ℕ) × (1 ≤ c) × (c ≤ width ch) × (length (netsOver ch c) ≡ density ch)
-unfolding density
+unfolding netsOver densest holding
 density-reached ch h =
-    let r = greatest-map-reached (spansOver (spansOf ch)) (upTo (width ch)) h in
+    let e = density-densest ch in
+    let r = greatest-map-reached (holding (firstColumn ch) (lastColumn ch) (spanning ch)) (upTo (width ch))
+    (rw e at h) in
     let b = upTo-member (width ch) (r .1) in
-    (r .0, b .0, b .1, sym (local-counts ch (r .0)) ∙ r .2)
-
-pub over≤density : (ch : Channel) (c : ℕ) → 1 ≤ c → c ≤ width ch → length (netsOver ch c) ≤ density ch
-unfolding density
-over≤density ch c h₁ h₂ =
-    let g = greatest-map-upper (spansOver (spansOf ch)) (in-upTo (width ch) c h₁ h₂) in
-    let e = local-counts ch c in
-    omega arith
+    (r .0, b .0, b .1, r .2 ∙ sym e)

@@ -1,8 +1,10 @@
--- The check of rows accepts exactly the channels that escape refusals 3 to 5.
+-- The check of rows accepts exactly the channels that escape refusals 3 to 5. The numbers of such a channel are low.
 use Prim.Native.Nat.{ℕ, zero, suc, _+_, _-_, _≤_}
 use native.Mathlib.Omega.{arith}
 use native.Mathlib.Decide.{decLe}
-use mathlib.Core.Path.{_≡_, refl, sym, _∙_, subst}
+use native.Mathlib.Numerals.{add-one}
+use mathlib.Core.Path.{_≡_, refl, sym, _∙_, ap, subst}
+use mathlib.Core.List.{List}
 use mathlib.Core.Logic.{_↔_, ⊎-elim}
 use mathlib.Core.Bool.{Bool, _||_, not}
 use mathlib.Core.Option.{none}
@@ -151,3 +153,14 @@ escapes→silent ch e = record { notWide = notWide; notUneven = notUneven; notHi
 -- the row check answers accepted exactly if the channel escapes refusals 3 to 5
 pub accepted-exactly : (ch : Channel) → (rowsRefusal ch ≡ none) ↔ Escapes ch
 accepted-exactly ch = (λ h. silent→escapes ch (silent→ ch h), λ e. →silent ch (escapes→silent ch e))
+
+-- what stands at place k of a row is column k + 1's, and at most 511
+pub at-next : (row : List ℕ) (k : ℕ) → at row (k + 1) ≡ getD row k 0
+at-next row k = ap (at row) (add-one k) ∙ at-suc row k
+
+module _ (ch : Channel) (k : ℕ) where
+  pub top-low : Escapes ch → getD (ch .top) k 0 ≤ highestNet
+  top-low esc = let e = at-next (ch .top) k in let h = esc .low (k + 1) .0 in omega arith
+
+  pub bot-low : Escapes ch → getD (ch .bot) k 0 ≤ highestNet
+  bot-low esc = let e = at-next (ch .bot) k in let h = esc .low (k + 1) .1 in omega arith

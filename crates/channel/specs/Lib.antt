@@ -3,7 +3,6 @@ pub mod Density
 pub mod Constraints
 pub mod Answers
 pub mod Spans
-pub mod Starts
 pub mod Rows
 pub mod Laws
 pub mod Parked
@@ -15,13 +14,11 @@ pub mod CountLaws
 pub mod PathLaws
 pub mod ChainLaws
 pub mod DensityLaws
+pub mod SpanningLaws
+pub mod StepsLaws
 pub mod RowLaws
 pub mod AnswerLaws
 pub mod BoundLaws
-pub mod Depths
-pub mod DepthLaws
-pub mod StartLaws
-pub mod SweepLaws
 pub mod NoteLaws
 pub mod ShownLaws
 pub mod RemoveLaws

@@ -16,8 +16,7 @@ use Rattle.lists.specs.Tallies.{keep-same}
 use Rattle.lists.specs.Updates.{keep-next, set-gives}
 use Rattle.lists.specs.Arrays.{getD-numbered, numbered-same, numbered-replicate, set-numbered}
 use Rattle.channel.specs.Channel.{Channel, width, isNet, stands, hasPin, pinColumns, firstColumn, lastColumn}
-use Rattle.channel.specs.Spans.{each512, firsts, lasts}
-use Rattle.channel.specs.Starts.{firstNoted}
+use Rattle.channel.specs.Spans.{each512, firsts, lasts, firstNoted}
 use Rattle.channel.specs.Parked.{NetsOnly}
 use Rattle.channel.specs.ParkedLaws.{zero-no-net, no-first, no-last, net-stands}
 

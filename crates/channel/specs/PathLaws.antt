@@ -10,7 +10,7 @@ use lib.ListN.{length}
 use Rattle.lists.specs.Lists.{headOr, isIn, Distinct}
 use Rattle.lists.specs.Tests.{passes?}
 use Rattle.lists.specs.Members.{isIn→member, member→isIn}
-use Rattle.lists.specs.Greatest.{greatest-map-upper, greatest-map-least}
+use Rattle.lists.specs.Greatest.{greatest-map-upper}
 use Rattle.lists.specs.Pigeonhole.{distinct-head, distinct-tail, distinct-cons}
 use Rattle.channel.specs.Channel.{Channel, spanning}
 use Rattle.channel.specs.Constraints.{Above, Drop, drops, below, depth, Path↓, alone, down, Step, netsOf}
@@ -37,11 +37,6 @@ module _ {ch : Channel} where
   unfolding path-nets
   path-nets-length (alone s) = refl
   path-nets-length (down c h p) = ap suc (path-nets-length p)
-
-  pub path-nets-head : {k a b : ℕ} (p : Path↓ ch k a b) → headOr 0 (path-nets p) ≡ a
-  unfolding path-nets headOr
-  path-nets-head (alone s) = refl
-  path-nets-head (down c h p) = refl
 
   pub path-start-spans : Escapes ch → {k a b : ℕ} → Path↓ ch k a b → List·Memᴰ a (spanning ch)
   path-start-spans esc (alone s) = s
@@ -111,9 +106,6 @@ module _ {ch : Channel} where
           ⊎-elim (λ t. inr (return→ring (return h p d (isIn→member n (path-nets p) t))))
           (λ no. inl (distinct-cons n (path-nets p) (λ m. no (member→isIn m)) d)) (passes? (isIn n (path-nets p)))
 
-  pub path-repeats→ring : {k a b : ℕ} (p : Path↓ ch k a b) → (Distinct (path-nets p) → ⊥) → Tangled ch
-  path-repeats→ring p repeats = ⊎-elim (λ d. absurd (repeats d)) (λ t. t) (path-distinct? p)
-
 -- `below` lists the nets that stand directly below
 pub above→below : (ch : Channel) {a b c : ℕ} → Above ch a b c → List·Memᴰ b (below ch a)
 above→below ch {a} {b} {c} h = Memᴰ·map (λ (d : Drop). d .lower) (above→drop ch a b c h)
@@ -128,12 +120,6 @@ pub above-greater-depth : (ch : Channel) (fuel : ℕ) {a b c : ℕ} → Above ch
     → depth fuel ch b < depth (suc fuel) ch a
 unfolding depth
 above-greater-depth ch fuel h = let g = greatest-map-upper (depth fuel ch) (above→below ch h) in omega arith
-
-pub depth≤fuel : (ch : Channel) (fuel n : ℕ) → depth fuel ch n ≤ fuel
-unfolding depth
-depth≤fuel ch zero n = omega arith
-depth≤fuel ch (suc fuel) n =
-    let g = greatest-map-least (depth fuel ch) (below ch n) fuel (λ b m. depth≤fuel ch fuel b) in omega arith
 
 -- a path that the fuel lasts for is no longer than the depth
 pub path≤depth : {ch : Channel} {k a b : ℕ} (fuel : ℕ) → Path↓ ch k a b → k ≤ fuel → k ≤ depth fuel ch a

@@ -12,16 +12,17 @@ use borrow.Author.Tests.{eq-eqb, ne-eqb, lt-ltb}
 use Rattle.lists.specs.Lists.{overlay}
 use Rattle.lists.specs.Tests.{equal?}
 use Rattle.lists.specs.Ends.{at-suc, at-map, member-at}
+use Rattle.lists.specs.Counts.{tally}
 use Rattle.lists.specs.Overlays.{copied-next, copied-whole}
 use Rattle.lists.specs.Updates.{map-same}
 use Rattle.channel.specs.Channel.{Channel, rows, width, highestNet, pinCount, isParked, unlessParked}
 use Rattle.channel.specs.Channel.{withoutParked}
 use Rattle.channel.specs.Answers.{Escapes}
-use Rattle.channel.specs.Rows.{firstHigh, tally, unlessOnce, netsOfRow}
+use Rattle.channel.specs.Rows.{firstHigh, unlessOnce, netsOfRow}
 use Rattle.channel.specs.Parked.{NetsOnly, ParkedRemoved}
 use Rattle.channel.specs.ShownLaws.{width-shown, escapes-shown, only-shown}
 use Rattle.channel.specs.RowLaws.{zeros, pins-counted, no-first-high}
-use Rattle.channel.specs.DepthLaws.{top-low, bot-low}
+use Rattle.channel.specs.EscapeLaws.{top-low, bot-low}
 
 module _ (counts : List ℕ) where
   pub counted-once : (n : ℕ) → getD counts n 0 ≡ 1 → 0 ≡ unlessOnce counts n

@@ -4,23 +4,22 @@ use Prim.Native.Nat.{ℕ, zero, suc, _+_, _-_, _≤_, _<_}
 use native.Mathlib.Omega.{arith}
 use native.Mathlib.Decide.{decLe}
 use native.Mathlib.Numerals.{add-one}
-use mathlib.Core.Path.{_≡_, refl, sym, _∙_, ap, subst}
-use mathlib.Core.List.{List, [], _∷_, _++_}
+use mathlib.Core.Path.{_≡_, sym, _∙_, ap, subst}
+use mathlib.Core.List.{List, _++_}
 use mathlib.Core.Logic.{⊎-elim}
 use mathlib.Core.Bool.{Bool}
-use lib.ListN.{length, getD, set, drop, replicate, drop-of-length-le, length-append, length-set, length-replicate}
-use lib.ListN.{getD-replicate}
-use lib.Seq.{drop-cons, getD-set-same, getD-set-other}
-use lib.Dec.{T, ltb, eqb, ltb→lt, lt→ltb, eqb→eq, eqb-refl}
-use Rattle.lists.specs.Lists.{at, keep, headOr}
-use Rattle.lists.specs.Tests.{T→true, fails→false, equal?}
+use lib.ListN.{length, getD, replicate, length-append, length-replicate}
+use lib.Dec.{T, ltb, eqb, ltb→lt, lt→ltb}
+use Rattle.lists.specs.Lists.{at, headOr}
+use Rattle.lists.specs.Tests.{equal?}
 use Rattle.lists.specs.Firsts.{Passing, NonePasses}
 use Rattle.lists.specs.Ends.{at-suc}
 use Rattle.lists.specs.Pigeonhole.{length-keep}
 use Rattle.lists.specs.Places.{at-left, at-right}
 use Rattle.lists.specs.Tallies.{firstOf, length-keep-append, first-is, first-none, is-first, none-first}
+use Rattle.lists.specs.Counts.{getD-zeros, tally, tally-length, tally-times}
 use Rattle.channel.specs.Channel.{Channel, highestNet, pinCount}
-use Rattle.channel.specs.Rows.{firstHigh, tally}
+use Rattle.channel.specs.Rows.{firstHigh}
 
 -- the test of `firstHigh`: place p of the row holds a number over 511
 abbrev pub high : List ℕ → ℕ → Bool
@@ -80,53 +79,6 @@ first-high-most row =
     omega arith)
     (equal? (firstOf (high row) (length row)) 0)
 
--- a turn of the count takes the next number of the row, and where none is left the count is done
-pub tally-step : (row counts : List ℕ) (i : ℕ) → i < length row
-    → tally (drop (i + 1) row) (set counts (getD row i 0) (getD counts (getD row i 0) 0 + 1)) ≡ tally
-    (drop i row) counts
-unfolding tally
-tally-step row counts i inside = rw (add-one i, drop-cons row i 0)
-
-pub tally-done : (row counts : List ℕ) (i : ℕ) → length row ≤ i → tally (drop i row) counts ≡ counts
-unfolding tally
-tally-done row counts i past = rw (drop-of-length-le row past)
-
--- how often n stands in a row
-abbrev times : ℕ → List ℕ → ℕ
-times n row = length (keep (eqb n) row)
-
--- the store of one turn counts its number one more time, and no other
-count-one : (counts : List ℕ) (m n : ℕ) → m < length counts
-    → getD (set counts m (getD counts m 0 + 1)) n 0 ≡ getD counts n 0 + times n (m ∷ [])
-unfolding keep
-count-one counts m n inside = ⊎-elim same other (equal? n m)
-  where
-    same : n ≡ m → getD (set counts m (getD counts m 0 + 1)) n 0 ≡ getD counts n 0 + times n (m ∷ [])
-    same e = rw (e, T→true (eqb m m) (eqb-refl m)) (getD-set-same counts m (getD counts m 0 + 1) 0 inside)
-
-    other : (n ≡ m → ⊥) → getD (set counts m (getD counts m 0 + 1)) n 0 ≡ getD counts n 0 + times n (m ∷ [])
-    other apart =
-        rw (fails→false (eqb n m) (λ t. apart (eqb→eq n m t)))
-        (getD-set-other counts m n (getD counts m 0 + 1) 0 apart ∙ omega arith)
-
-tally-length : (row counts : List ℕ) → length (tally row counts) ≡ length counts
-unfolding tally
-tally-length [] counts = refl
-tally-length (m ∷ ms) counts =
-    tally-length ms (set counts m (getD counts m 0 + 1)) ∙ length-set counts m (getD counts m 0 + 1)
-
--- counting a row raises each count by how often its net stands in the row
-tally-times : (row counts : List ℕ) (n : ℕ) → ((k : ℕ) → k < length row → getD row k 0 < length counts)
-    → getD (tally row counts) n 0 ≡ getD counts n 0 + times n row
-unfolding tally keep
-tally-times [] counts n low = omega arith
-tally-times (m ∷ ms) counts n low =
-    let rest = tally-times ms (set counts m (getD counts m 0 + 1)) n
-    (λ k h. rw length-set (low (suc k) (omega arith))) in
-    let first = count-one counts m n (low 0 (omega arith)) in
-    let both = length-keep-append (eqb n) (m ∷ []) ms in
-    omega arith
-
 -- the counts before any pin is counted
 unfoldable pub zeros : List ℕ
 zeros = replicate 512 0
@@ -135,12 +87,12 @@ zeros-length : length zeros ≡ 512
 unfolding zeros
 zeros-length = length-replicate {A = ℕ} 512 0
 
-zeros-at : (n : ℕ) → n < 512 → getD zeros n 0 ≡ 0
+zeros-at : (n : ℕ) → getD zeros n 0 ≡ 0
 unfolding zeros
-zeros-at n inside = getD-replicate {A = ℕ} 512 n 0 0 inside
+zeros-at n = getD-zeros 512 n
 
 pub zeros-within : (n : ℕ) → n < 512 → getD zeros n 0 ≤ 512
-zeros-within n inside = let z = zeros-at n inside in omega arith
+zeros-within n inside = let z = zeros-at n in omega arith
 
 -- the numbers of a row without high ones each have a count
 has-count : (row counts : List ℕ) → firstHigh row ≡ 0 → length counts ≡ 512 → (k : ℕ) → k < length row
@@ -151,7 +103,7 @@ has-count row counts none full k inside = let h = none-high row none k inside in
 pub counts-within : (row : List ℕ) → firstHigh row ≡ 0 → (n : ℕ) → n < 512 → getD (tally row zeros) n 0 ≤ length row
 counts-within row none n inside =
     let e = tally-times row zeros n (has-count row zeros none zeros-length) in
-    let z = zeros-at n inside in
+    let z = zeros-at n in
     let l = length-keep (eqb n) row in
     omega arith
 
@@ -250,6 +202,6 @@ module _ (ch : Channel) where
       let full : length once ≡ 512 = tally-length (ch .top) zeros ∙ zeros-length in
       let a = tally-times (ch .top) zeros n (has-count (ch .top) zeros top-low zeros-length) in
       let b = tally-times (ch .bot) once n (has-count (ch .bot) once bot-low full) in
-      let z = zeros-at n inside in
+      let z = zeros-at n in
       let t = length-keep-append (eqb n) (ch .top) (ch .bot) in
       omega arith

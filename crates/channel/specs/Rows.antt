@@ -1,8 +1,8 @@
 -- What the parts of the row check answer over one row, and of the removal of parked pins over a row and the counts.
-use Prim.Native.Nat.{ℕ, _+_}
-use mathlib.Core.List.{List, [], _∷_, map}
+use Prim.Native.Nat.{ℕ}
+use mathlib.Core.List.{List, map}
 use mathlib.Core.Bool.{cond}
-use lib.ListN.{length, getD, set}
+use lib.ListN.{length, getD}
 use lib.Dec.{ltb, eqb}
 use Rattle.lists.specs.Lists.{keep, headOr, upTo, at}
 use Rattle.channel.specs.Channel.{highestNet}
@@ -10,11 +10,6 @@ use Rattle.channel.specs.Channel.{highestNet}
 -- the place of the first number over 511, 0 if there is none
 unfoldable pub firstHigh : List ℕ → ℕ
 firstHigh row = headOr 0 (keep (λ p. ltb highestNet (at row p)) (upTo (length row)))
-
--- each number of the row counted one more time; the count of net n stands at n
-unfoldable pub tally : List ℕ → List ℕ → List ℕ
-tally [] counts = counts
-tally (n ∷ ns) counts = tally ns (set counts n (getD counts n 0 + 1))
 
 -- the number, or 0 if it is counted just once; and so for each of a row
 unfoldable pub unlessOnce : List ℕ → ℕ → ℕ

@@ -6,11 +6,14 @@ use native.Mathlib.Decide.{decLt}
 use mathlib.Core.Path.{_≡_, refl, sym, _∙_, ap, subst}
 use mathlib.Core.List.{List, [], _∷_, map, List·Memᴰ, Memᴰ·of-map}
 use mathlib.Core.Logic.{_⊎_, inl, inr, ⊎-elim}
+use lib.ListN.{length}
 use lib.Dec.{T, ltb→lt, lt→ltb}
-use Rattle.lists.specs.Lists.{upTo, at}
+use Rattle.lists.specs.Lists.{upTo, at, Distinct}
 use Rattle.lists.specs.Tests.{equal?}
 use Rattle.lists.specs.Members.{keep-member, kept, upTo-member, in-upTo}
-use Rattle.lists.specs.Ends.{elsewhere, at-inside, Rising, from-rising, keep-rising}
+use Rattle.lists.specs.Ends.{elsewhere, at-inside, Rising, from-rising, keep-rising, rising-distinct}
+use Rattle.lists.specs.Pigeonhole.{length-keep}
+use Rattle.lists.specs.Eaches.{few-kept}
 use Rattle.grid.specs.declared.Column.{Column}
 use Rattle.grid.specs.Pieces.{column}
 use Rattle.channel.specs.Channel.{Channel, width, positions, highestNet, pinCount, isNet, firstColumn}
@@ -63,6 +66,18 @@ unfolding spanning hasSpan
 pub spanning-rising : (ch : Channel) → Rising (spanning ch)
 unfolding spanning
 spanning-rising ch = keep-rising (hasSpan ch) (nets ch) (nets-rising ch)
+
+-- they are different, have numbers of 1 to 511, and so are no more than 511
+pub spanning-small : (ch : Channel) → Distinct (spanning ch) × ((n : ℕ) → List·Memᴰ n (spanning ch) → n < 512)
+    × (length (spanning ch) ≤ highestNet)
+unfolding spanning nets
+spanning-small ch =
+    let few = length-keep (hasSpan ch) (nets ch) in
+    let all = few-kept (isNet ch) highestNet in (
+      rising-distinct (spanning ch) (spanning-rising ch),
+      λ n m. let l = spanning→ ch n m .0 .low in omega arith,
+      omega arith,
+    )
 
 -- a span begins before it ends: a straight net has none
 pub spans-rise : (ch : Channel) (s : Span) → List·Memᴰ s (spansOf ch) → s .first < s .last

@@ -1,18 +1,15 @@
 // A channel handed over as two rows of net numbers, and what is answered about it.
-mod chain;
-mod density;
+mod lower_bounds;
 mod parked;
 mod rows;
+mod spanning;
 mod spans;
 
-pub use chain::bounds;
-pub use density::Starting;
-pub use density::greatest_density;
-pub use density::nets_starting;
+pub use lower_bounds::bounds;
 pub use parked::remove_parked;
 use refusal::Refusal;
 pub use rows::check;
-pub use spans::Span;
+pub use spanning::list_spanning;
 pub use spans::Spans;
 pub use spans::find_spans;
 pub use spans::plain_columns;

@@ -2,12 +2,11 @@
 ghost use mathlib.Core.Path.{_≡_};
 ghost use mathlib.Core.List.{map};
 ghost use Prim.Native.Nat.{_≤_};
-ghost use lib.ListN.{set};
+ghost use lib.ListN.{set, replicate};
 ghost use Rattle.grid.specs.Pieces.{column};
 ghost use Rattle.channel.specs.Channel.{highestNet, rows};
-ghost use Rattle.channel.specs.Spans.{SpansFound};
+ghost use Rattle.channel.specs.Spans.{SpansFound, firsts, lasts, firstNoted};
 ghost use Rattle.channel.specs.Parked.{NetsOnly};
-ghost use Rattle.channel.specs.Starts.{firstNoted};
 use grid::Column;
 use grid::NET_SLOTS;
 use grid::Net;
@@ -16,12 +15,6 @@ use grid::Net;
 pub struct Spans {
     pub first: [Column; NET_SLOTS],
     pub last: [Column; NET_SLOTS],
-}
-
-// The columns of one net.
-pub struct Span {
-    pub first: Column,
-    pub last: Column,
 }
 
 // The numbers of columns, for a loop that is lent plain numbers.
@@ -65,22 +58,39 @@ fn note(first: &mut [u32; NET_SLOTS], last: &mut [u32; NET_SLOTS], n: Net, c: Co
     last[i] = c.0;
 }
 
-// The spans of a channel whose rows show nets only. What is noted of number 0, which is no net's, is cleared.
+// The first and the last pin column of every net of a channel whose rows show nets only, by its number, in tables that
+// hold 0 everywhere. What is noted of number 0, which is no net's, is cleared.
+pub fn find_columns(
+    top: &[u32],
+    bot: &[u32],
+    first: &mut [u32; NET_SLOTS],
+    last: &mut [u32; NET_SLOTS],
+)
+    requires { ⌜ NetsOnly (rows (now top) (now bot)) × (now first ≡ replicate 512 0)
+        × (now last ≡ replicate 512 0) ⌝ }
+    ensures { λ _.
+        ⌜ (now (first .exit) ≡ firsts (rows (now (top .entry)) (now (bot .entry))))
+        × (now (last .exit) ≡ lasts (rows (now (top .entry)) (now (bot .entry)))) ⌝ }
+{
+    let mut i: usize = 0;
+    while i < top.len() {
+        let c = Column(i as u32 + 1);
+        note(first, last, Net(top[i]), c);
+        note(first, last, Net(bot[i]), c);
+        i += 1;
+    }
+    first[0] = 0;
+    last[0] = 0;
+}
+
+// The spans of a channel whose rows show nets only.
 pub fn find_spans(top: &[u32], bot: &[u32]) -> Spans
     requires { ⌜ NetsOnly (rows (now top) (now bot)) ⌝ }
     ensures { λ r. ⌜ SpansFound (rows (now (top .entry)) (now (bot .entry))) r ⌝ }
 {
     let mut first = [0u32; NET_SLOTS];
     let mut last = [0u32; NET_SLOTS];
-    let mut i: usize = 0;
-    while i < top.len() {
-        let c = Column(i as u32 + 1);
-        note(&mut first, &mut last, Net(top[i]), c);
-        note(&mut first, &mut last, Net(bot[i]), c);
-        i += 1;
-    }
-    first[0] = 0;
-    last[0] = 0;
+    find_columns(top, bot, &mut first, &mut last);
     Spans {
         first: typed_columns(first),
         last: typed_columns(last),

@@ -11,6 +11,8 @@ pub const HIGHEST_NET: u32 = 511;
 pub const NETS: usize = HIGHEST_NET as usize;
 
 pub const NET_SLOTS: usize = NETS + 1;
+// a table by column has a place for each column and one for 0, which is no column
+pub const COLUMN_SLOTS: usize = WIDEST + 1;
 
 // The kinds of copper, as the board file numbers them.
 pub const TRUNK: u32 = 0;

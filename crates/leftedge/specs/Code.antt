@@ -9,14 +9,14 @@ use Rattle.grid.specs.declared.Track.{Track}
 use Rattle.grid.specs.Pieces.{track}
 use Rattle.channel.specs.Channel.{Channel, spanning}
 use Rattle.channel.specs.Parked.{NetsOnly}
-use Rattle.channel.specs.Spans.{each512}
+use Rattle.channel.specs.Spans.{each512, firsts, lasts}
 use Rattle.leftedge.specs.declared.Outcome.{Outcome}
 use Rattle.leftedge.specs.declared.Outcome.the-variants.{Placed, Stuck}
 use Rattle.leftedge.specs.declared.Filled.{Filled}
 use Rattle.leftedge.specs.Items.{trackOf}
 use Rattle.leftedge.specs.Fill.{Filling, filled, stuck}
 use Rattle.leftedge.specs.Walk.{ringOf, ringNumbers}
-use Rattle.leftedge.specs.Nets.{netItems, fill}
+use Rattle.leftedge.specs.Nets.{fillOrder, netItems, fill}
 use Rattle.leftedge.specs.Invariants.{StuckWith}
 
 -- how a fill ends, in numbers: the tracks, or the pairs of the ring shown
@@ -40,6 +40,16 @@ pub record FillDone (ch : Channel) (ring : List ℕ) (r : Filled) (ring′ : Lis
   pub outcome : r .outcome ≡ outcomeOf ch (fill ch)
   pub tracks : r .tracks ≡ tracksBy (fill ch)
   pub held : ring′ ≡ ringHeld ch (fill ch) ring
+
+-- where the fill of a channel's nets begins: the plain columns, and the nets in the order of the scan
+pub record NetsBegin (ch : Channel) (first last left : List ℕ) (count : ℕ) (tracks : List ℕ) : Type 0 where
+  pub only : NetsOnly ch
+  pub begins : first ≡ firsts ch
+  pub ends : last ≡ lasts ch
+  pub order : take count left ≡ fillOrder ch
+  pub counted : count ≡ length (fillOrder ch)
+  pub fits : count ≤ length left
+  pub bare : tracks ≡ replicate 512 0
 
 -- what `show_ring` answers of the nets left, and what the ring buffer then holds
 pub record RingShown (ch : Channel) (left ring : List ℕ) (r : ℕ) (ring′ : List ℕ) : Type 0 where

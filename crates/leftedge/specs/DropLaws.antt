@@ -13,13 +13,29 @@ use Rattle.lists.specs.Tests.{true→T, same-test, eq→T, fails→false, false
 use Rattle.lists.specs.Tests.{not-passes, not-fails}
 use Rattle.lists.specs.Arrays.{numbered-replicate, numbered-same, set-numbered}
 use Rattle.channel.specs.Channel.{Channel, width}
-use Rattle.channel.specs.Laws.{net-positive}
+use Rattle.channel.specs.Constraints.{Above, above}
+use Rattle.channel.specs.Laws.{above→, →above, net-positive}
 use Rattle.channel.specs.Spans.{each512}
 use Rattle.channel.specs.Parked.{NetsOnly}
 use Rattle.channel.specs.ParkedLaws.{top-net, bot-net}
-use Rattle.leftedge.specs.Marked.{overUnplaced}
-use Rattle.leftedge.specs.MarkedLaws.{over→, →over}
-use Rattle.leftedge.specs.Ring.{lowestDrop}
+use Rattle.leftedge.specs.Ring.{overUnplaced, lowestDrop}
+
+module _ (ch : Channel) (tracks : List ℕ) where
+  -- a net stands in a column directly above one without a track
+  pub over→ : (n c : ℕ) → T (overUnplaced ch tracks n c)
+      → Above ch n (at (ch .bot) c) c × (getD tracks (at (ch .bot) c) 0 ≡ 0)
+  unfolding overUnplaced
+  over→ n c t =
+      let up = above ch n (at (ch .bot) c) c in
+      let bare = eqb (getD tracks (at (ch .bot) c) 0) 0 in (
+        above→ ch n (at (ch .bot) c) c (and-left up bare t),
+        eqb→eq (getD tracks (at (ch .bot) c) 0) 0 (and-right up bare t),
+      )
+
+  pub →over : (n b c : ℕ) → Above ch n b c → getD tracks b 0 ≡ 0 → T (overUnplaced ch tracks n c)
+  unfolding overUnplaced
+  →over n b c h z =
+      rw (h .onBot) (and-both (above ch n b c) (eqb (getD tracks b 0) 0) (→above ch n b c h) (rw z tt))
 
 -- the lowest column past i in which net n is above a net without a track
 unfoldable pub dropFrom : Channel → List ℕ → ℕ → ℕ → ℕ

@@ -2,17 +2,19 @@
 -- the fill ends with none left or with an empty track.
 use Prim.Native.Nat.{ℕ, zero, suc, _+_, _≤_, _<_}
 use native.Mathlib.Omega.{arith}
-use mathlib.Core.Path.{_≡_, refl, sym, _∙_, subst}
-use mathlib.Core.List.{List, [], _∷_, List·Memᴰ, List·Memᴰ·not-nil, Sublistᴰ, Sublistᴰ·refl, Sublistᴰ·trans}
+use mathlib.Core.Path.{_≡_, refl, sym, _∙_, ap, subst}
+use mathlib.Core.List.{List, [], _∷_, List·Memᴰ, List·Memᴰ·head, List·Memᴰ·tail, List·Memᴰ·not-nil, Sublistᴰ}
+use mathlib.Core.List.{Sublistᴰ·refl, Sublistᴰ·trans}
 use mathlib.Core.Logic.{inr, ⊎-elim}
 use mathlib.Core.Bool.{Bool, true, false, cond, _&&_}
-use mathlib.Core.Option.{none}
+use mathlib.Core.Option.{Option, none, some}
 use lib.ListN.{length}
 use lib.Dec.{T, eqb, eqb→eq, eqb-refl}
+use borrow.Author.Tests.{eq-eqb, ne-eqb}
 use Rattle.lists.specs.Lists.{Distinct, anyOf}
 use Rattle.lists.specs.Tests.{true→T, false→fails, equal?}
-use Rattle.lists.specs.Orders.{member?, sublist-member, sublist-distinct}
-use Rattle.leftedge.specs.Items.{Items, Place, isPlaced, trackOf, fits, clearBelow}
+use Rattle.lists.specs.Orders.{member?, sublist-member, sublist-length, sublist-distinct}
+use Rattle.leftedge.specs.Items.{Items, itemsBelow, Place, isPlaced, trackOf, fits, clearBelow}
 use Rattle.leftedge.specs.Fill.{Scan, scan, Filling, filled, stuck, orElse, fillFrom, fillItems}
 use Rattle.leftedge.specs.Invariants.{Falls, Orderly, FilledBy, StuckWith}
 use Rattle.leftedge.specs.TrackLaws.{tracked→placed, unclear→unplaced}
@@ -219,3 +221,59 @@ fill-filled it orderly t ps e = subst (λ (f : Filling). Ends it orderly f) e (f
 
 pub fill-stuck : (it : Items) → Orderly it → (left : List ℕ) → fillItems it ≡ stuck left → StuckWith it left
 fill-stuck it orderly left e = subst (λ (f : Filling). Ends it orderly f) e (fill-items-ends it orderly)
+
+same-fuel : (it : Items) (f g done : ℕ) (ps : List Place) (left : List ℕ) → length left ≤ f → f ≤ g
+    → fillFrom g it done ps left ≡ fillFrom f it done ps left
+unfolding fillFrom orElse
+same-fuel it zero zero done ps left enough more = refl
+same-fuel it zero (suc g) done ps [] enough more = refl
+same-fuel it zero (suc g) done ps (n ∷ ns) enough more = absurd (omega arith)
+same-fuel it (suc f) zero done ps left enough more = absurd (omega arith)
+same-fuel it (suc f) (suc g) done ps left enough more =
+    let s = scan it (suc done) none ps left in
+    let h = sublist-length (scan-sublist (trace it (suc done) none ps left)) in
+    ⊎-elim (λ e. rw (eq-eqb (length (s .left)) (length left) e))
+    (λ less. let on = same-fuel it f g (suc done) (s .placed) (s .left) (omega (arith, less)) (omega arith) in
+    rw (ne-eqb (length (s .left)) (length left) less, on)) (equal? (length (s .left)) (length left))
+
+-- more fuel than items changes nothing
+pub more-fuel : (it : Items) (fuel done : ℕ) (ps : List Place) (left : List ℕ) → length left ≤ fuel
+    → fillFrom fuel it done ps left ≡ fillFrom (length left) it done ps left
+more-fuel it fuel done ps left enough = same-fuel it (length left) fuel done ps left (omega arith) enough
+
+module _ (a b : Items) (same-order : a .order ≡ b .order)
+    (same-fits : (m n : ℕ) → List·Memᴰ m (a .order) → List·Memᴰ n (a .order) → a .fitsAfter m n ≡ b .fitsAfter m n)
+    (same-below : (n : ℕ) → List·Memᴰ n (a .order) → itemsBelow a n ≡ itemsBelow b n) where
+  scan-alike : (k : ℕ) (before : Option ℕ) (ps : List Place) (ns : List ℕ)
+      → ((n : ℕ) → List·Memᴰ n (a .order) → fits a before n ≡ fits b before n)
+      → ((n : ℕ) → List·Memᴰ n ns → List·Memᴰ n (a .order)) → scan a k before ps ns ≡ scan b k before ps ns
+  unfolding scan fits clearBelow
+  scan-alike k before ps [] like inside = refl
+  scan-alike k before ps (n ∷ ns) like inside =
+      let here = inside n (List·Memᴰ·head refl) in
+      let there : ((m : ℕ) → List·Memᴰ m ns → List·Memᴰ m (a .order)) = λ m h. inside m (List·Memᴰ·tail h) in
+      rw (
+        like n here,
+        same-below n here,
+        scan-alike k (some n) (record { item = n; track = k } ∷ ps) ns (λ m h. same-fits n m here h) there,
+        scan-alike k before ps ns like there,
+      )
+
+  from-alike : (fuel done : ℕ) (ps : List Place) (left : List ℕ)
+      → ((n : ℕ) → List·Memᴰ n left → List·Memᴰ n (a .order))
+      → fillFrom fuel a done ps left ≡ fillFrom fuel b done ps left
+  unfolding fillFrom fits
+  from-alike zero done ps left inside = refl
+  from-alike (suc fuel) done ps left inside =
+      rw (
+        scan-alike (suc done) none ps left (λ n h. refl) inside,
+        from-alike fuel (suc done) (scan b (suc done) none ps left .placed) (scan b (suc done) none ps left .left)
+            (λ n h. inside n (sublist-member (scan-sublist (trace b (suc done) none ps left)) h)),
+      )
+
+  -- items that are alike fill alike: the same order, and on its members the same fits and the same items below
+  pub fill-alike : fillItems a ≡ fillItems b
+  unfolding fillItems
+  fill-alike =
+      from-alike (length (a .order)) 0 [] (a .order) (λ n h. h)
+      ∙ ap (λ (l : List ℕ). fillFrom (length l) b 0 [] l) same-order

@@ -1,269 +1,150 @@
--- The fill track by track, as the code carries it in arrays: what is placed and left so far, and the fill that is still
--- to come.
-use Prim.Native.Nat.{ℕ, zero, suc, _+_, _≤_, _<_}
+-- The fill track by track, over the tables: what is placed and left so far, and the fill that is still to come.
+use Prim.Native.Nat.{ℕ, suc, _+_, _≤_, _<_}
 use native.Mathlib.Numerals.{add-one}
 use native.Mathlib.Omega.{arith}
-use mathlib.Core.Path.{_≡_, refl, sym, _∙_, ap, subst}
-use mathlib.Core.List.{List, [], _∷_, map, List·Memᴰ}
-use mathlib.Core.Logic.{_↔_}
+use mathlib.Core.Path.{_≡_, refl, sym, _∙_, ap}
+use mathlib.Core.List.{List, [], _∷_, List·Memᴰ}
+use mathlib.Core.Bool.{cond}
 use mathlib.Core.Option.{Option, none}
-use lib.ListN.{length, getD, take, replicate, drop, length-append, length-drop}
-use lib.Seq.{take-append-seam}
+use lib.ListN.{length, getD, take, length-take}
+use lib.Dec.{eqb}
 use borrow.Author.Tests.{eq-eqb, ne-eqb}
-use Rattle.lists.specs.Lists.{each, upTo, overlay}
-use Rattle.lists.specs.Members.{each-member, in-upTo}
-use Rattle.lists.specs.Places.{length-from}
-use Rattle.lists.specs.Pigeonhole.{pigeonhole}
-use Rattle.lists.specs.Arrays.{getD-numbered, numbered-same, numbered-replicate}
-use Rattle.lists.specs.Orders.{sublist-member, sublist-length}
-use Rattle.grid.specs.Pieces.{track}
-use Rattle.channel.specs.Channel.{Channel, width, spanning}
-use Rattle.channel.specs.Answers.{Escapes}
-use Rattle.channel.specs.Parked.{NetsOnly}
-use Rattle.channel.specs.SpanLaws.{spanning→}
-use Rattle.channel.specs.Spans.{each512, firsts, lasts, starting}
-use Rattle.leftedge.specs.declared.Outcome.the-variants.{Placed, Stuck}
-use Rattle.leftedge.specs.declared.Filled.{Filled}
+use Rattle.lists.specs.Orders.{sublist-member, sublist-length, sublist-distinct}
+use Rattle.leftedge.specs.declared.tracks.FillEnd.the-variants as ends
 use Rattle.leftedge.specs.Items.{Items, Place, trackOf}
-use Rattle.leftedge.specs.Fill.{Scan, scan, filled, stuck, orElse, fillFrom, fillItems}
-use Rattle.leftedge.specs.Walk.{ringOf, ringNumbers}
-use Rattle.leftedge.specs.Nets.{fillOrder, netItems, fill}
-use Rattle.leftedge.specs.ScanLaws.{Trace, trace, ends, takes, passes, scan-sublist}
-use Rattle.leftedge.specs.FillLaws.{Settled, nothing-placed, settled-next}
-use Rattle.leftedge.specs.NetLaws.{starting→, starts-distinct, nets-orderly, order→spanning, spanning→order}
-use Rattle.leftedge.specs.NetFill.{nets-stuck}
-use Rattle.leftedge.specs.Marked.{blockedMarks, Scanned, scanMarked, inArrays, ScanDone}
-use Rattle.leftedge.specs.MarkedLaws.{scan-by-marks}
-use Rattle.leftedge.specs.Code.{outcomeOf, ringHeld, tracksBy, RingShown, FillDone, WalkFrom}
+use Rattle.leftedge.specs.Fill.{Scan, scan, stuck, orElse, fillFrom, fillItems}
+use Rattle.leftedge.specs.ScanLaws.{Trace, trace, scan-sublist}
+use Rattle.leftedge.specs.ScanLaws as steps
+use Rattle.leftedge.specs.FillLaws.{Settled, nothing-placed, settled-next, more-fuel}
+use Rattle.leftedge.specs.Tables.{Held, ScanBegins, ScanDone, FillBegins, FillEnds, endOf}
 
 -- a scan that leaves as many items as it looked at placed none
 scan-same : {it : Items} {k : ℕ} {before : Option ℕ} {ps qs : List Place} {ns left : List ℕ}
     → Trace it k before ps ns qs left → length left ≡ length ns → (qs ≡ ps) × (left ≡ ns)
-scan-same ends e = (refl, refl)
-scan-same (takes fit clear rest) e = let h = sublist-length (scan-sublist rest) in absurd (omega arith)
-scan-same (passes {n = n} fails rest) e =
+scan-same steps.ends e = (refl, refl)
+scan-same (steps.takes fit clear rest) e = let h = sublist-length (scan-sublist rest) in absurd (omega arith)
+scan-same (steps.passes {n = n} fails rest) e =
     let r = scan-same rest (omega arith) in (r .0, ap (λ (l : List ℕ). n ∷ l) (r .1))
 
 module _ (it : Items) (done : ℕ) (ps : List Place) where
-  fill-none : (fuel : ℕ) → fillFrom fuel it done ps [] ≡ filled done ps
-  unfolding fillFrom orElse
-  fill-none zero = refl
-  fill-none (suc fuel) = refl
-
   abbrev after : List ℕ → Scan
   after ls = scan it (suc done) none ps ls
 
-  -- the next track stays empty
-  fill-stays : (fuel : ℕ) (ls : List ℕ) → 0 < length ls → length ls ≤ fuel → length (after ls .left) ≡ length ls
-      → fillFrom fuel it done ps ls ≡ stuck ls
+  -- the next track stays empty, or the fill goes on after it
+  fill-track : (ls : List ℕ) → (length ls ≡ 0 → ⊥) → fillFrom (length ls) it done ps ls
+      ≡ cond (eqb (length (after ls .left)) (length ls)) (stuck ls)
+      (fillFrom (length (after ls .left)) it (suc done) (after ls .placed) (after ls .left))
   unfolding fillFrom orElse
-  fill-stays zero [] some-left enough same = absurd (omega arith)
-  fill-stays zero (n ∷ ns) some-left enough same = absurd (omega arith)
-  fill-stays (suc fuel) [] some-left enough same = absurd (omega arith)
-  fill-stays (suc fuel) (n ∷ ns) some-left enough same =
-      rw (eq-eqb (length (after (n ∷ ns) .left)) (length (n ∷ ns)) same)
+  fill-track [] some-left = absurd (some-left refl)
+  fill-track (n ∷ ns) some-left =
+      sym (more-fuel it (suc (length (n ∷ ns))) done ps (n ∷ ns) (omega arith))
+      ∙ rw (more-fuel it (length (n ∷ ns)) (suc done) (after (n ∷ ns) .placed) (after (n ∷ ns) .left)
+      (sublist-length (scan-sublist (trace it (suc done) none ps (n ∷ ns)))))
 
-  -- or it takes an item, and there is fuel for the rest
-  fill-next : (fuel : ℕ) (ls : List ℕ) → 0 < length ls → length ls ≤ fuel → (length (after ls .left) ≡ length ls → ⊥)
-      → (less : ℕ) × (length (after ls .left) ≤ less)
-      × (fillFrom fuel it done ps ls ≡ fillFrom less it (suc done) (after ls .placed) (after ls .left))
-  unfolding fillFrom orElse
-  fill-next zero [] some-left enough fewer = absurd (omega arith)
-  fill-next zero (n ∷ ns) some-left enough fewer = absurd (omega arith)
-  fill-next (suc fuel) [] some-left enough fewer = absurd (omega arith)
-  fill-next (suc fuel) (n ∷ ns) some-left enough fewer = (
-    fuel,
-    (let h = sublist-length (scan-sublist (trace it (suc done) none ps (n ∷ ns))) in omega (arith, fewer)),
-    rw (ne-eqb (length (after (n ∷ ns) .left)) (length (n ∷ ns)) fewer),
-  )
-
--- the nets that start in the first columns are no more than there are net numbers
-pub starts-few : (ch : Channel) (i : ℕ) → length (each (starting ch) (upTo i)) ≤ 511
-starts-few ch i =
-    let inside : (n : ℕ) → List·Memᴰ n (each (starting ch) (upTo i)) → List·Memᴰ n (upTo 511) = λ n m.
-    let r = each-member (starting ch) (upTo i) m in
-    let net = spanning→ ch n (starting→ ch (r .0) n (r .2) .0) .0 in
-    in-upTo 511 n (net .positive) (net .low) in
-    let p = pigeonhole (each (starting ch) (upTo i)) (upTo 511) (starts-distinct ch 1 i) inside in
-    let l = length-from 1 511 in
-    omega arith
-
-order-few : (ch : Channel) → length (netItems ch .order) ≤ 511
-unfolding netItems fillOrder
-order-few ch = starts-few ch (width ch)
-
--- `done` tracks are filled; the first `count` of those held are left
-pub record Underway (ch : Channel) (tracks held : List ℕ) (count done : ℕ) : Type 0 where
-  pub fuel : ℕ
+-- `done` tracks are filled; the first `rest` of `left` are left
+pub record Underway (it : Items) (under left tracks : List ℕ) (rest done : ℕ) : Type 0 where
   pub ps : List Place
-  pub ls : List ℕ
-  pub rest : fill ch ≡ fillFrom fuel (netItems ch) done ps ls
-  pub enough : length ls ≤ fuel
-  pub settled : Settled (netItems ch) done ps ls
-  pub placed : tracks ≡ each512 (trackOf ps)
-  pub ahead : take count held ≡ ls
-  pub counted : count ≡ length ls
-  pub long : length held ≡ 512
+  pub counted : length (take rest left) ≡ rest
+  pub goes-on : fillItems it ≡ fillFrom (length (take rest left)) it done ps (take rest left)
+  pub settled : Settled it done ps (take rest left)
+  pub held : Held it ps under tracks
 
-module _ (ch : Channel) (only : NetsOnly ch) where
-  abbrev esc : Escapes ch
-  esc = only .escapes
-
-  abbrev it : Items
-  it = netItems ch
-
-  pub starts-empty : (held : List ℕ) → length held ≡ 512
-      → Underway ch (replicate 512 0) (overlay (fillOrder ch) held) (length (fillOrder ch)) 0
-  unfolding fill fillItems netItems trackOf
-  starts-empty held long =
+module _ {it : Items} {first last us head next under₀ left₀ : List ℕ} {count : ℕ} {tracks₀ : List ℕ}
+    (b : FillBegins it first last us head next under₀ left₀ count tracks₀) where
+  pub starts-empty : Underway it under₀ left₀ tracks₀ count 0
+  unfolding fillItems
+  starts-empty =
       record {
-        fuel = length (fillOrder ch);
         ps = [];
-        ls = fillOrder ch;
-        rest = refl;
-        enough = omega arith;
-        settled = nothing-placed it (nets-orderly ch esc);
-        placed = numbered-replicate 512 0
-            ∙ numbered-same (λ n. 0) (trackOf []) 512 (λ n below. refl);
-        ahead = take-append-seam (fillOrder ch) _;
-        counted = refl;
-        long = omega (
-          arith,
-          length-append (fillOrder ch) (drop (length (fillOrder ch)) held),
-          length-drop (length (fillOrder ch)) held,
-          order-few ch,
-        );
+        counted = rw (b .order) (sym (b .counted));
+        goes-on = rw (b .order);
+        settled = rw (b .order) (nothing-placed it (b .orderly));
+        held = b .held;
       }
 
-  module _ (tracks held : List ℕ) (count done : ℕ) (u : Underway ch tracks held count done) where
-    -- there are no more tracks and nets than net numbers
-    pub few : done + count ≤ 511
-    few = let c = u .settled .count in let e = u .counted in omega (arith, order-few ch)
+  module _ {under left tracks : List ℕ} {rest done : ℕ} (u : Underway it under left tracks rest done) where
+    abbrev ls : List ℕ
+    ls = take rest left
 
-    pub nets-low : (n : ℕ) → List·Memᴰ n (take count held) → n < 512
-    nets-low n m =
-        let l =
-        spanning→ ch n (order→spanning ch n (sublist-member (u .settled .sub)
-        (subst (λ (l : List ℕ). List·Memᴰ n l) (u .ahead) m))) .0 .low in
-        omega arith
+    -- there are no more tracks and items than items
+    pub few : done + rest < 4294967296
+    few = let c = u .settled .count in let e = u .counted in omega arith
 
-    none-left : count ≡ 0 → fill ch ≡ filled done (u .ps)
-    none-left e =
-        u .rest ∙ (ap (fillFrom (u .fuel) it done (u .ps)) (empty (u .ls) (sym (u .counted) ∙ e))
-        ∙ fill-none it done (u .ps) (u .fuel))
-      where
-        empty : (ls : List ℕ) → length ls ≡ 0 → ls ≡ []
-        empty [] h = refl
-        empty (n ∷ ns) h = absurd (omega arith)
+    pub scan-begins : ScanBegins it (u .ps) first last us head next under left rest tracks
+    scan-begins =
+        record {
+          tabled = b .tabled;
+          held = u .held;
+          few = omega (arith, length-take rest left, u .counted);
+          items = λ n m. sublist-member (u .settled .sub) m;
+          distinct = sublist-distinct (u .settled .sub) (b .orderly .distinct);
+          fresh = λ n m t. omega (arith, u .settled .fresh n m, u .settled .sound .positive n t);
+        }
 
-    -- every net is placed
-    pub placed-done : (ring ring′ : List ℕ) (r : Filled) → ring′ ≡ ring → count ≡ 0 → r .outcome ≡ Placed done
-        → r .tracks ≡ map track tracks → FillDone ch ring r ring′
-    unfolding outcomeOf ringHeld tracksBy
-    placed-done ring ring′ r untouched ended outcome held-tracks =
-        let end = none-left ended in
-        let placed = held-tracks ∙ ap (map track) (u .placed) in
-        record { outcome = rw end outcome; tracks = rw end placed; held = rw end untouched }
+    -- every item is placed
+    pub placed-ends : rest ≡ 0 → FillEnds it (fillItems it) (ends.Placed done) left tracks
+    unfolding fillFrom orElse endOf
+    placed-ends e =
+        rw (u .goes-on, e) (record {
+          end = refl;
+          placed = λ t ps q n h. let same : u .ps ≡ ps = cc in rw (← same) (u .held .tracked n h);
+          left = λ l q. let z : _≡_ {A = ℕ} 0 1 = cc in absurd (omega arith);
+          unplaced = λ l q. let z : _≡_ {A = ℕ} 0 1 = cc in absurd (omega arith);
+        })
 
-    module _ (r : ℕ) (held′ tracks′ : List ℕ) (d : ScanDone
-        (scanMarked (firsts ch) (lasts ch) (blockedMarks ch tracks) (done + 1) 0 tracks (take count held)) r held′
-        tracks′) (some-left : count ≡ 0 → ⊥) where
-      abbrev after-this : Scan
-      after-this = after it done (u .ps) (u .ls)
+    -- after the scan of the next track
+    module _ {r : ℕ} {under′ left′ tracks′ : List ℕ}
+        (ensures : (ps : List Place) → ScanBegins it ps first last us head next under left rest tracks
+        → ScanDone it (scan it (done + 1) none ps ls) r under′ left′ tracks′) (some-left : rest ≡ 0 → ⊥) where
+      abbrev now : Scan
+      now = after it done (u .ps) ls
 
-      scanned : scanMarked (firsts ch) (lasts ch) (blockedMarks ch tracks) (done + 1) 0 tracks
-          (take count held) ≡ inArrays after-this
-      scanned =
-          rw (u .placed, u .ahead, add-one done) (scan-by-marks ch esc (suc done) (u .ps) (u .ls)
-          (u .settled .sound .positive) (λ n m. sublist-member (u .settled .sub) m))
+      scanned : ScanDone it now r under′ left′ tracks′
+      scanned = rw add-one at (ensures (u .ps) scan-begins)
 
-      counted : r ≡ length (after-this .left)
-      counted = d .count ∙ ap (λ (s : Scanned). length (s .left)) scanned
+      looks : Trace it (suc done) none (u .ps) ls (now .placed) (now .left)
+      looks = trace it (suc done) none (u .ps) ls
 
-      kept : take r held′ ≡ after-this .left
-      kept = d .left ∙ ap (λ (s : Scanned). s .left) scanned
+      continues : fillItems it ≡ cond (eqb (length (now .left)) (length ls)) (stuck ls)
+          (fillFrom (length (now .left)) it (suc done) (now .placed) (now .left))
+      continues = u .goes-on ∙ fill-track it done (u .ps) ls (λ e. some-left (sym (u .counted) ∙ e))
 
-      marked : tracks′ ≡ each512 (trackOf (after-this .placed))
-      marked = d .tracks ∙ ap (λ (s : Scanned). s .tracks) scanned
+      pub no-more : r ≤ rest
+      no-more = omega (arith, u .counted, scanned .count, sublist-length (scan-sublist looks))
 
-      steps : Trace it (suc done) none (u .ps) (u .ls) (after-this .placed) (after-this .left)
-      steps = trace it (suc done) none (u .ps) (u .ls)
-
-      some-here : 0 < length (u .ls)
-      some-here = let e = u .counted in omega (arith, some-left)
-
-      pub no-more : r ≤ count
-      no-more = let e = u .counted in let c = counted in let h = sublist-length (scan-sublist steps) in omega arith
-
-      pub track-filled : (r ≡ count → ⊥) → Underway ch tracks′ held′ r (done + 1)
+      pub track-filled : (r ≡ rest → ⊥) → Underway it under′ left′ tracks′ r (done + 1)
       track-filled fewer =
           rw add-one (record {
-            fuel = onward .0;
-            ps = after-this .placed;
-            ls = after-this .left;
-            rest = u .rest
-                ∙ onward .2;
-            enough = onward .1;
-            settled = settled-next it (nets-orderly ch esc) done (u .ps) (u .ls)
-                (u .settled) less;
-            placed = marked;
-            ahead = kept;
-            counted = counted;
-            long = d .long;
+            ps = now .placed;
+            counted = rw (scanned .left) (sym (scanned .count));
+            goes-on = rw (scanned .left) (continues ∙ rw (ne-eqb (length (now .left)) (length ls) less));
+            settled = rw (scanned .left) (settled-next it (b .orderly) done (u .ps) ls (u .settled) less);
+            held = scanned .held;
           })
         where
-          less : length (after-this .left) ≡ length (u .ls) → ⊥
-          less e = fewer (counted ∙ (e ∙ sym (u .counted)))
+          less : length (now .left) ≡ length ls → ⊥
+          less e = fewer (scanned .count ∙ (e ∙ u .counted))
 
-          onward : (fuel : ℕ) × (length (after-this .left) ≤ fuel)
-              × (fillFrom (u .fuel) it done (u .ps) (u .ls) ≡ fillFrom fuel it (suc done) (after-this .placed)
-              (after-this .left))
-          onward = fill-next it done (u .ps) (u .fuel) (u .ls) some-here (u .enough) less
+      pub stuck-ends : r ≡ rest → FillEnds it (fillItems it) (ends.Stuck rest) left′ tracks′
+      unfolding endOf
+      stuck-ends same =
+          rw stays (record {
+            end = ap ends.Stuck (sym (u .counted));
+            placed = λ t ps q. let z : _≡_ {A = ℕ} 0 1 = cc in absurd (omega arith);
+            left = λ l q. let e : ls ≡ l = cc in rw (← e) kept;
+            unplaced = λ l q n m. let e : ls ≡ l = cc in
+                rw (← e, track-of n m) (u .settled .known n m, u .settled .fresh n);
+          })
+        where
+          alike : length (now .left) ≡ length ls
+          alike = sym (scanned .count) ∙ (same ∙ sym (u .counted))
 
-      module _ (same : r ≡ count) where
-        nothing-taken : (after-this .placed ≡ u .ps) × (after-this .left ≡ u .ls)
-        nothing-taken = scan-same steps (sym counted ∙ (same ∙ u .counted))
+          stays : fillItems it ≡ stuck ls
+          stays = continues ∙ rw (eq-eqb (length (now .left)) (length ls) alike)
 
-        still-left : take count held′ ≡ u .ls
-        still-left = ap (λ (k : ℕ). take k held′) (sym same) ∙ (kept ∙ nothing-taken .1)
+          kept : take (length ls) left′ ≡ ls
+          kept =
+              ap (λ (j : ℕ). take j left′) (u .counted ∙ sym same) ∙ (scanned .left ∙ scan-same looks alike .1)
 
-        pub track-empty : fill ch ≡ stuck (take count held′)
-        track-empty =
-            u .rest ∙ (fill-stays it done (u .ps) (u .fuel) (u .ls) some-here (u .enough) (ap length (nothing-taken .1))
-            ∙ ap stuck (sym still-left))
-
-        pub walk-begins : WalkFrom ch tracks′ held′ count
-        walk-begins =
-            record {
-              only = only;
-              fits = let f = few in let l = d .long in
-                  omega arith;
-              stuck-with = nets-stuck ch esc (take count held′) track-empty;
-              unplaced = unplaced;
-            }
-          where
-            track-of : (n : ℕ) → List·Memᴰ n (spanning ch) → getD tracks′ n 0 ≡ trackOf (u .ps) n
-            track-of n m =
-                rw (marked, nothing-taken .0) (getD-numbered (trackOf (u .ps)) 512 n
-                (let l = spanning→ ch n m .0 .low in omega arith))
-
-            unplaced : (n : ℕ) → List·Memᴰ n (spanning ch) → (getD tracks′ n 0 ≡ 0) ↔ List·Memᴰ n (take count held′)
-            unplaced n m = (
-              λ e. subst (λ (l : List ℕ). List·Memᴰ n l) (sym still-left)
-                  (u .settled .known n (spanning→order ch (esc .even) n m) (sym (track-of n m) ∙ e)),
-              λ h. track-of n m ∙ u .settled .fresh n (subst (λ (l : List ℕ). List·Memᴰ n l) still-left h),
-            )
-
--- the fill is stuck, and the ring is shown
-pub stuck-done : (ch : Channel) (left : List ℕ) → fill ch ≡ stuck left
-    → (ring before ring′ : List ℕ) (r : Filled) (pairs : ℕ)
-    → before ≡ ring → RingShown ch left before pairs ring′ → r .outcome ≡ Stuck pairs
-    → r .tracks ≡ replicate 512 (track 0)
-    → FillDone ch ring r ring′
-unfolding outcomeOf ringHeld tracksBy
-stuck-done ch left end ring before ring′ r pairs untouched shown outcome bare =
-    record {
-      outcome = rw end (outcome ∙ ap Stuck (shown .counted));
-      tracks = rw end bare;
-      held = rw end (shown .shown ∙ ap (overlay (ringNumbers (ringOf (netItems ch) left))) untouched);
-    }
+          track-of : (n : ℕ) → List·Memᴰ n (it .order) → getD tracks′ n 0 ≡ trackOf (u .ps) n
+          track-of n m = rw (← scan-same looks alike .0) (scanned .held .tracked n (scanned .held .number n m .1))

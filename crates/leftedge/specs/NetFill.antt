@@ -1,33 +1,30 @@
 -- The fill of a channel's nets: what `FilledBy` and `StuckWith` say in the words of nets, spans and rings.
 use Prim.Native.Nat.{ℕ, _≤_, _<_}
 use native.Mathlib.Omega.{arith}
-use native.Mathlib.Decide.{decLe}
-use mathlib.Core.Path.{_≡_, sym, _∙_}
-use mathlib.Core.List.{List, [], List·Memᴰ}
+use mathlib.Core.Path.{_≡_}
+use mathlib.Core.List.{List}
 use lib.ListN.{length}
-use lib.Dec.{T}
-use Rattle.lists.specs.Lists.{upTo}
-use Rattle.lists.specs.Members.{upTo-member}
-use Rattle.lists.specs.Ends.{from-rising, rising-distinct}
-use Rattle.lists.specs.Places.{length-from}
 use Rattle.lists.specs.Ranges.{no-member→empty}
-use Rattle.lists.specs.Pigeonhole.{pigeonhole, injection}
-use Rattle.channel.specs.Channel.{Channel, firstColumn, lastColumn, nets}
+use Rattle.lists.specs.Pigeonhole.{pigeonhole}
+use Rattle.channel.specs.Channel.{Channel, width, firstColumn, lastColumn, nets, spanning}
 use Rattle.channel.specs.Density.{density}
 use Rattle.channel.specs.Constraints.{drops, Above, Path↓, alone, down, Step, netsOf, Descends, last, next, Ring}
 use Rattle.channel.specs.Constraints.{Unconstrained}
 use Rattle.channel.specs.Answers.{Escapes}
-use Rattle.channel.specs.Laws.{net→pin, pin-in-first, drop→above}
+use Rattle.channel.specs.Laws.{drop→above}
 use Rattle.channel.specs.SpanLaws.{spanning→, upper-spans, →nets}
-use Rattle.channel.specs.DensityLaws.{netsOver, Over, →over, over≤density}
+use Rattle.items.specs.DensityLaws.{densest-within}
+use Rattle.channel.specs.DensityLaws.{density-densest}
 use Rattle.leftedge.specs.Items.{Place, trackOf}
 use Rattle.leftedge.specs.Fill.{filled, stuck}
 use Rattle.leftedge.specs.Walk.{ringOf}
 use Rattle.leftedge.specs.Nets.{netItems, fill}
-use Rattle.leftedge.specs.Invariants.{Falls, Before, FilledBy, StuckWith}
+use Rattle.leftedge.specs.Invariants.{Falls, FilledBy, StuckWith}
 use Rattle.leftedge.specs.FillLaws.{fill-filled, fill-stuck}
 use Rattle.leftedge.specs.WalkLaws.{walk-ring}
-use Rattle.leftedge.specs.NetLaws.{nets-orderly, order→spanning, spanning→order, before-starts, →fits-after}
+use Rattle.leftedge.specs.SpanFill.{Spanning, tracks≤density as fewest}
+use Rattle.leftedge.specs.NetLaws.{nets-orderly, order→spanning, spanning→order, starts-inside}
+use Rattle.leftedge.specs.NetLaws.{before-starts, →fits-after}
 use Rattle.leftedge.specs.NetLaws.{falls→above, above→falls}
 
 module _ (ch : Channel) (esc : Escapes ch) where
@@ -76,56 +73,22 @@ module _ (ch : Channel) (esc : Escapes ch) where
         (λ n m. →nets ch n (spanning→ ch n (order→spanning ch n m) .0)) in
         omega arith
 
-    -- where no net is above another, a net of the highest track has as many nets over its first column as there are
-    -- tracks
-    pressed-over : Unconstrained ch → (n j : ℕ) → List·Memᴰ n (netItems ch .order) → 1 ≤ j → j ≤ trackOf ps n
-        → (m : ℕ) × (trackOf ps m ≡ j) × Over ch (firstColumn ch n) m
-    unfolding netItems
-    pressed-over free n j here h₁ h₂ =
-        elim (decLe (trackOf ps n) j) [
-          | yes h ↦ (n, (omega arith), itself)
-          | no h ↦
-              below (f .pressed empty n j here h₁ (omega arith))
-        ]
-      where
-        itself : Over ch (firstColumn ch n) n
-        itself =
-            let s = order→spanning ch n here in
-            let r = spanning→ ch n s .2 in
-            record { spans = s; begins = omega arith; ends = omega arith }
-
-        empty : (m : ℕ) → drops ch m ≡ []
-        empty m = no-member→empty (drops ch m) (λ d k. free m (d .lower) (d .column) (drop→above ch m d k))
-
-        below : (m : ℕ) × List·Memᴰ m (netItems ch .order) × (trackOf ps m ≡ j) × Before m n (netItems ch .order)
-            × (T (netItems ch .fitsAfter m n) → ⊥) → (m : ℕ) × (trackOf ps m ≡ j) × Over ch (firstColumn ch n) m
-        below r =
-            let starts = before-starts ch (r .0) n (r .3) in
-            let holds : firstColumn ch n ≤ lastColumn ch (r .0) =
-            elim (decLe (firstColumn ch n) (lastColumn ch (r .0)))
-            [ yes k ↦ k | no k ↦ absurd (r .4 (→fits-after ch (r .0) n (omega arith))) ] in
-            (r .0, r .2, record { spans = order→spanning ch (r .0) (r .1); begins = starts; ends = holds })
-
+    -- where no net is above another, the fill takes no more tracks than the density
     pub tracks≤density : Unconstrained ch → t ≤ density ch
+    unfolding netItems
     tracks≤density free =
-        elim (decLe t 0) [ yes h ↦ omega arith | no h ↦ counted (f .used t (omega arith) (omega arith)) ]
+        let few = fewest (netItems ch) (firstColumn ch) (lastColumn ch) (width ch) net-spans
+        (λ m. no-member→empty (drops ch m) (λ d k. free m (d .lower) (d .column) (drop→above ch m d k))) t ps f in
+        let same = densest-within (firstColumn ch) (lastColumn ch) (netItems ch .order) (spanning ch)
+        (nets-orderly ch esc .distinct) (order→spanning ch) (width ch) in
+        let e = density-densest ch in
+        omega arith
       where
-        counted : (n : ℕ) × List·Memᴰ n (netItems ch .order) × (trackOf ps n ≡ t) → t ≤ density ch
-        counted r =
-            let n = r .0 in
-            let top = r .2 in
-            let c = firstColumn ch n in
-            let net = spanning→ ch n (order→spanning ch n (r .1)) .0 in
-            let some-pin = net→pin ch n (esc .even) (net .isNet) in
-            let first = pin-in-first ch n (some-pin .0) (some-pin .1) in
-            let gives : (j : ℕ) → List·Memᴰ j (upTo t) → (m : ℕ) × (trackOf ps m ≡ j)
-            × List·Memᴰ m (netsOver ch c) = λ j k.
-            let b = upTo-member t k in
-            let p = pressed-over free n j (r .1) (b .0) (omega arith) in
-            (p .0, p .1, →over ch c (p .0) (p .2)) in
-            let fit = injection (λ j m. trackOf ps m ≡ j) (upTo t) (netsOver ch c)
-            (record { gives = gives; apart = λ i j m e₁ e₂. sym e₁ ∙ e₂ })
-            (rising-distinct (upTo t) (from-rising 1 t)) in
-            let dense = over≤density ch c (first .first) (first .last) in
-            let size = length-from 1 t in
-            omega arith
+        net-spans : Spanning (netItems ch) (firstColumn ch) (lastColumn ch) (width ch)
+        net-spans =
+            record {
+              inside = λ n m. starts-inside ch (esc .even) n (order→spanning ch n m);
+              span = λ n m. spanning→ ch n (order→spanning ch n m) .2;
+              sorted = before-starts ch;
+              fits = →fits-after ch;
+            }

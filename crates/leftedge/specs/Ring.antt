@@ -3,13 +3,18 @@
 use Prim.Native.Nat.{ℕ, zero, suc, _+_, _≤_, _<_}
 use mathlib.Core.Path.{_≡_}
 use mathlib.Core.List.{List, [], _∷_, _++_, map, List·Memᴰ}
+use mathlib.Core.Bool.{Bool, _&&_}
 use lib.ListN.{length, take, getD}
+use lib.Dec.{eqb}
 use lib.Seq.{slice}
 use Rattle.lists.specs.Lists.{keep, upTo, headOr, at}
 use Rattle.channel.specs.Channel.{Channel, width}
-use Rattle.channel.specs.Constraints.{Step}
+use Rattle.channel.specs.Constraints.{above, Step}
 use Rattle.leftedge.specs.Walk.{ringNumbers}
-use Rattle.leftedge.specs.Marked.{overUnplaced}
+
+-- in column c net n is directly above a net without a track
+unfoldable pub overUnplaced : Channel → List ℕ → ℕ → ℕ → Bool
+overUnplaced ch tracks n c = above ch n (at (ch .bot) c) c && eqb (getD tracks (at (ch .bot) c) 0) 0
 
 -- the lowest column in which net n is above a net without a track, 0 if there is none
 unfoldable pub lowestDrop : Channel → List ℕ → ℕ → ℕ

@@ -28,8 +28,8 @@ use Rattle.leftedge.specs.Nets.{netItems}
 use Rattle.leftedge.specs.WalkLaws.{first-drop, least-left}
 use Rattle.leftedge.specs.NetLaws.{order→spanning, falls→above}
 use Rattle.leftedge.specs.Code.{WalkFrom}
-use Rattle.leftedge.specs.Marked.{overUnplaced}
-use Rattle.leftedge.specs.Ring.{lowestDrop, netBelow, after, met, pairOf, stepsBy, Confines, Visited, not-yet}
+use Rattle.leftedge.specs.Ring.{overUnplaced, lowestDrop, netBelow, after, met, pairOf, stepsBy, Confines}
+use Rattle.leftedge.specs.Ring.{Visited, not-yet}
 use Rattle.leftedge.specs.Ring.{visited, Trail}
 use Rattle.leftedge.specs.RingLists.{keep-same, keep-map, steps-more}
 use Rattle.leftedge.specs.TrailLaws.{length-met, met-distinct, after-inside, met-inside, met-few, trail-low}

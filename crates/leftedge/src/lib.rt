@@ -1,6 +1,5 @@
 // Filling tracks by the constrained left-edge rule, and the ring that is shown where the fill is stuck.
-mod blocks;
-mod order;
+mod nets;
 mod ring;
 mod tracks;
 
@@ -8,7 +7,7 @@ use grid::Column;
 use grid::NET_SLOTS;
 use grid::Net;
 use grid::Track;
-pub use tracks::fill_tracks;
+pub use nets::fill_tracks;
 
 // What the caller's table has of one net. A straight net's column stands twice, and its track is 0: it has none.
 pub struct NetRecord {

@@ -1,6 +1,6 @@
 -- The first and the last of those of a range that pass a test: members, and the least and the greatest of them. And a
 -- second occurrence where a number does not stand just once, and none where it does.
-use Prim.Native.Nat.{ℕ, zero, suc, _≤_, _<_}
+use Prim.Native.Nat.{ℕ, zero, suc, _-_, _≤_, _<_}
 use native.Mathlib.Omega.{arith}
 use mathlib.Core.Path.{_≡_, refl, sym, _∙_, ap, subst}
 use mathlib.Core.List.{List, [], _∷_, map, List·Memᴰ, List·Memᴰ·head, List·Memᴰ·tail, List·Memᴰ·cases-cons}
@@ -62,9 +62,9 @@ pub at-suc : (row : List ℕ) (i : ℕ) → at row (suc i) ≡ getD row i 0
 unfolding at
 at-suc row i = refl
 
-pub at-zero : (row : List ℕ) → at row 0 ≡ 0
-unfolding at
-at-zero row = refl
+pub at-pred : (row : List ℕ) (k : ℕ) → 0 < k → at row k ≡ getD row (k - 1) 0
+at-pred row zero h = absurd (omega arith)
+at-pred row (suc i) h = let same : suc i - 1 ≡ i = omega arith in rw (same, at-suc row i)
 
 -- a row in which each number is exchanged, where 0 stays 0
 pub at-map : (f : ℕ → ℕ) → f 0 ≡ 0 → (row : List ℕ) (k : ℕ) → at (map f row) k ≡ f (at row k)

@@ -1,11 +1,12 @@
 -- The greatest of what a function gives for the members of a list: none gives more, and if it is not 0 then one of them
--- gives it.
-use Prim.Native.Nat.{ℕ, max, _≤_, _<_}
+-- gives it. The greatest of a row, by its places.
+use Prim.Native.Nat.{ℕ, zero, suc, max, _≤_, _<_}
 use native.Mathlib.Omega.{arith}
 use native.Mathlib.Decide.{decLe}
 use mathlib.Core.Path.{_≡_, refl, subst}
 use mathlib.Core.List.{List, [], _∷_, map, List·Memᴰ, List·Memᴰ·head, List·Memᴰ·tail}
-use Rattle.lists.specs.Lists.{greatest}
+use lib.ListN.{getD}
+use Rattle.lists.specs.Lists.{greatest, at}
 
 module _ {A : Type 0} (f : A → ℕ) where
   pub greatest-map-upper : {xs : List A} {x : A} → List·Memᴰ x xs → f x ≤ greatest (map f xs)
@@ -33,3 +34,16 @@ module _ {A : Type 0} (f : A → ℕ) where
             (let r = greatest-map-reached ys (omega arith) in let e = r .2 in
             (r .0, List·Memᴰ·tail (r .1), omega arith))
       ]
+
+-- no place of a row has more than its greatest, which is at most what each is at most
+pub at≤greatest : (row : List ℕ) (k : ℕ) → at row k ≤ greatest row
+unfolding at greatest
+at≤greatest row zero = omega arith
+at≤greatest [] (suc k) = omega arith
+at≤greatest (x ∷ xs) (suc zero) = omega arith
+at≤greatest (x ∷ xs) (suc (suc k)) = omega (arith, at≤greatest xs (suc k))
+
+pub greatest≤ : (row : List ℕ) (m : ℕ) → ((k : ℕ) → getD row k 0 ≤ m) → greatest row ≤ m
+unfolding greatest
+greatest≤ [] m h = omega arith
+greatest≤ (x ∷ xs) m h = omega (arith, h 0, greatest≤ xs m (λ k. h (suc k)))

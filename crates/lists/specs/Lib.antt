@@ -12,10 +12,12 @@ pub mod Orders
 pub mod Places
 pub mod Eaches
 pub mod Tallies
+pub mod Counts
 pub mod Unique
 pub mod Arrays
 pub mod Updates
 pub mod Stores
 pub mod Overlays
+pub mod Collects
 pub mod Runs
 pub mod Maps

@@ -2,13 +2,15 @@
 use Prim.Native.Nat.{ℕ, zero, suc, _+_, _≤_, _<_}
 use native.Mathlib.Omega.{arith}
 use mathlib.Core.Path.{_≡_, refl, sym, subst}
-use mathlib.Core.List.{List, [], _∷_, List·Memᴰ, List·Memᴰ·head, List·Memᴰ·tail, List·Memᴰ·not-nil}
+use mathlib.Core.List.{List, [], _∷_, _++_, List·Memᴰ, List·Memᴰ·head, List·Memᴰ·tail, List·Memᴰ·not-nil}
 use mathlib.Core.List.{List·Memᴰ·cases-cons, List·Memᴰ·append-cases, Memᴰ·append-left, Memᴰ·append-right, Memᴰ·cast}
+use mathlib.Core.List.{List·Memᴰ·eq-of-singleton}
 use mathlib.Core.Logic.{_⊎_, ⊎-elim}
-use mathlib.Core.Bool.{Bool, true, false, cond}
+use mathlib.Core.Bool.{Bool, true, false, cond, _||_}
 use lib.Dec.{T, eqb, eqb→eq, eqb-refl}
 use Rattle.lists.specs.Lists.{keep, each, anyOf, allOf, isIn, from, upTo}
-use Rattle.lists.specs.Tests.{and-left, and-right, and-both, or-cases, or-left, or-right, true→T, equal?}
+use Rattle.lists.specs.Tests.{and-left, and-right, and-both, or-cases, or-left, or-right, true→T, eq→T}
+use Rattle.lists.specs.Tests.{same-test, equal?}
 
 module _ {A : Type 0} where
   -- what is kept is a member that passes, and such a member is kept
@@ -82,6 +84,16 @@ isIn→member n ns h = let r = any→member (eqb n) ns h in Memᴰ·cast (eqb→
 
 pub member→isIn : {n : ℕ} {ns : List ℕ} → List·Memᴰ n ns → T (isIn n ns)
 member→isIn {n} m = member→any (eqb n) m (eqb-refl n)
+
+-- one member more at the end
+pub isIn-snoc : (m x : ℕ) (xs : List ℕ) → isIn m (xs ++ (x ∷ [])) ≡ eqb x m || isIn m xs
+isIn-snoc m x xs =
+    same-test (isIn m (xs ++ (x ∷ []))) (eqb x m || isIn m xs)
+    (λ t. ⊎-elim (λ k. or-right (eqb x m) (isIn m xs) (member→isIn k))
+    (λ k. or-left (eqb x m) (isIn m xs) (eq→T x m (sym (List·Memᴰ·eq-of-singleton k))))
+    (List·Memᴰ·append-cases xs (isIn→member m (xs ++ (x ∷ [])) t)))
+    (λ t. ⊎-elim (λ e. member→isIn (Memᴰ·append-right xs (List·Memᴰ·head (sym (eqb→eq x m e)))))
+    (λ k. member→isIn (Memᴰ·append-left (x ∷ []) (isIn→member m xs k))) (or-cases (eqb x m) (isIn m xs) t))
 
 -- `from a n` has the numbers a to a + n - 1
 pub from-member : (a n : ℕ) {k : ℕ} → List·Memᴰ k (from a n) → (a ≤ k) × (k < a + n)

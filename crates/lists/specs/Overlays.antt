@@ -5,7 +5,7 @@ use native.Mathlib.Numerals.{add-one}
 use mathlib.Core.Path.{_≡_, refl, sym, _∙_, ap}
 use mathlib.Core.List.{List, [], _∷_, _++_}
 use lib.ListN.{length, getD, take, drop, set, length-take}
-use lib.Seq.{take-all, take-nil, take-append-seam}
+use lib.Seq.{take-all, take-nil, take-append-seam, drop-append-seam}
 use Rattle.lists.specs.Lists.{overlay}
 
 module _ {A : Type 0} where
@@ -19,6 +19,14 @@ module _ {A : Type 0} where
   pub stored-next : (buffer xs : List A) (x : A) (m : ℕ) {filled : List A} → length buffer ≡ m
       → filled ≡ overlay (take m xs) buffer → set filled (length xs) x ≡ overlay (take m (xs ++ (x ∷ []))) buffer
   stored-next buffer xs x m e h = rw (h, ← e) (sym (overlay-snoc buffer xs x))
+
+  -- one more stored behind the front
+  pub overlay-push : (front buffer : List A) (x : A) → length front < length buffer
+      → set (overlay front buffer) (length front) x ≡ overlay (front ++ (x ∷ [])) buffer
+  overlay-push [] [] x h = absurd (omega arith)
+  overlay-push [] (b ∷ bs) x h = refl
+  overlay-push (y ∷ ys) [] x h = absurd (omega arith)
+  overlay-push (y ∷ ys) (b ∷ bs) x h = ap {B = List A} (λ r. y ∷ r) (overlay-push ys bs x (omega arith))
 
   -- a row copied place by place: one more place, and all of them
   pub overlay-next : (row buffer : List A) (i : ℕ) (d : A) → i < length row → i < length buffer
@@ -51,3 +59,13 @@ module _ {A : Type 0} where
   -- the front that was filled
   pub overlay-front : (front buffer : List A) → take (length front) (overlay front buffer) ≡ front
   overlay-front front buffer = take-append-seam front (drop (length front) buffer)
+
+  pub front-of : (front buffer : List A) {filled : List A} {n : ℕ} → n ≡ length front → filled ≡ overlay front buffer
+      → take n filled ≡ front
+  front-of front buffer e h = rw (e, h) (overlay-front front buffer)
+
+  -- another front of the same length
+  pub front-again : (front front′ buffer : List A) {made filled : List A} {n : ℕ} → made ≡ front′ → n ≡ length front
+      → filled ≡ overlay front buffer → length front′ ≡ length front → made ++ drop n filled ≡ overlay front′ buffer
+  front-again front front′ buffer m e h same =
+      rw (m, e, h, same) (ap (λ (l : List A). front′ ++ l) (drop-append-seam front (drop (length front) buffer)))

@@ -3,14 +3,14 @@ use Prim.Native.Nat.{ℕ, suc, _+_, _≤_, _<_}
 use native.Mathlib.Omega.{arith}
 use mathlib.Core.Path.{_≡_, refl, sym, ap, subst}
 use mathlib.Core.List.{List, [], _∷_, _++_, List·Memᴰ, List·Memᴰ·head, List·Memᴰ·tail, List·Memᴰ·cases-cons}
-use mathlib.Core.List.{List·Memᴰ·not-nil, List·Memᴰ·append-cases, Memᴰ·cast}
+use mathlib.Core.List.{List·Memᴰ·not-nil, List·Memᴰ·append-cases, List·Memᴰ·eq-of-singleton, Memᴰ·cast}
 use mathlib.Core.Logic.{_⊎_, ⊎-elim}
 use mathlib.Core.Bool.{Bool, true, false, cond, not}
 use lib.ListN.{length}
 use lib.Dec.{eqb, eqb→eq, eqb-refl}
 use Rattle.lists.specs.Lists.{keep, isIn, Distinct}
-use Rattle.lists.specs.Tests.{T→true, false→fails, fails→false, not-passes}
-use Rattle.lists.specs.Members.{kept, isIn→member, member→isIn}
+use Rattle.lists.specs.Tests.{T→true, false→fails, fails→false, not-passes, passes?}
+use Rattle.lists.specs.Members.{keep-member, kept, isIn→member, member→isIn}
 
 -- `Distinct` at a cons: its head is none of the rest
 pub distinct-head : (x : ℕ) (xs : List ℕ) → Distinct (x ∷ xs) → List·Memᴰ x xs → ⊥
@@ -25,13 +25,30 @@ pub distinct-cons : (x : ℕ) (xs : List ℕ) → (List·Memᴰ x xs → ⊥) �
 unfolding Distinct
 distinct-cons x xs h d = (fails→false (isIn x xs) (λ t. h (isIn→member x xs t)), d)
 
+-- lists put end to end repeat nothing if none does and they have no member in common; what is kept of a list that
+-- repeats nothing repeats nothing
+pub append-distinct : (xs ys : List ℕ) → Distinct xs → Distinct ys
+    → ((n : ℕ) → List·Memᴰ n xs → List·Memᴰ n ys → ⊥) → Distinct (xs ++ ys)
+append-distinct [] ys d e h = e
+append-distinct (x ∷ xs) ys d e h =
+    distinct-cons x (xs ++ ys) (λ m. ⊎-elim (distinct-head x xs d) (h x (List·Memᴰ·head refl))
+    (List·Memᴰ·append-cases xs m))
+    (append-distinct xs ys (distinct-tail x xs d) e (λ n m. h n (List·Memᴰ·tail m)))
+
+pub keep-distinct : (f : ℕ → Bool) (xs : List ℕ) → Distinct xs → Distinct (keep f xs)
+unfolding keep
+keep-distinct f [] d = d
+keep-distinct f (x ∷ xs) d = go (f x) (keep-distinct f xs (distinct-tail x xs d))
+  where
+    go : (b : Bool) → Distinct (keep f xs) → Distinct (cond b (x ∷ keep f xs) (keep f xs))
+    go true e = distinct-cons x (keep f xs) (λ m. distinct-head x xs d (keep-member f xs m .0)) e
+    go false e = e
+
 pub distinct-snoc : (xs : List ℕ) (x : ℕ) → (List·Memᴰ x xs → ⊥) → Distinct xs → Distinct (xs ++ (x ∷ []))
-distinct-snoc [] x h d = distinct-cons x [] (λ m. h m) d
-distinct-snoc (y ∷ ys) x h d =
-    distinct-cons y (ys ++ (x ∷ [])) (λ m. ⊎-elim (distinct-head y ys d)
-    (λ k. ⊎-elim (λ e. h (List·Memᴰ·head (sym e))) (λ z. h (absurd (elim z [ ]))) (List·Memᴰ·cases-cons k))
-    (List·Memᴰ·append-cases ys m))
-    (distinct-snoc ys x (λ m. h (List·Memᴰ·tail m)) (distinct-tail y ys d))
+unfolding Distinct
+distinct-snoc xs x h d =
+    append-distinct xs (x ∷ []) d (distinct-cons x [] List·Memᴰ·not-nil tt)
+    (λ n m k. h (Memᴰ·cast (sym (List·Memᴰ·eq-of-singleton k)) m))
 
 module _ {A : Type 0} (f : A → Bool) where
   pub length-keep : (xs : List A) → length (keep f xs) ≤ length xs
@@ -62,6 +79,14 @@ pigeonhole (x ∷ xs) ys d h =
     (λ t. distinct-head x xs d (subst (λ (k : ℕ). List·Memᴰ k xs) (sym (eqb→eq x z t)) m)))) in
     let fewer = length-keep-less others (h x (List·Memᴰ·head refl)) (ap not (T→true (eqb x x) (eqb-refl x))) in
     omega arith
+
+-- a list that repeats nothing and has as many members as another of which all are members has all of them
+pub same-members : (xs ys : List ℕ) → Distinct xs → ((x : ℕ) → List·Memᴰ x xs → List·Memᴰ x ys)
+    → length ys ≤ length xs → (y : ℕ) → List·Memᴰ y ys → List·Memᴰ y xs
+same-members xs ys d h long y m =
+    ⊎-elim (isIn→member y xs) (λ out. absurd (let p = pigeonhole (y ∷ xs) ys
+    (distinct-cons y xs (λ k. out (member→isIn k)) d)
+    (λ x k. ⊎-elim (λ e. Memᴰ·cast e m) (h x) (List·Memᴰ·cases-cons k)) in omega arith)) (passes? (isIn y xs))
 
 -- R gives each of the numbers a number of ys, and gives none to two of them
 pub record Assigned (R : ℕ → ℕ → Type 0) (ns ys : List ℕ) : Type 0 where

@@ -72,6 +72,11 @@ pub not-fails : (b : Bool) → T (not b) → T b → ⊥
 not-fails true h k = h
 not-fails false h k = k
 
+-- a test, counted
+abbrev pub one-if : Bool → ℕ
+one-if true = 1
+one-if false = 0
+
 pub equal? : (a b : ℕ) → (a ≡ b) ⊎ (a ≡ b → ⊥)
 equal? a b = elim (ℕ-discrete a b) [ yes e ↦ inl e | no h ↦ inr h ]
 

@@ -7,8 +7,8 @@ use mathlib.Core.Path.{_≡_, refl, sym, _∙_}
 use borrow.Author.Needs.{needs}
 use lib.ListN.{length, getD, drop}
 use Rattle.lists.specs.Tallies.{set-within}
-use Rattle.channel.specs.Rows.{tally}
-use Rattle.channel.specs.RowLaws.{none-high, tally-step, tally-done}
+use Rattle.lists.specs.Counts.{tally, tally-step, tally-done}
+use Rattle.channel.specs.RowLaws.{none-high}
 use Rattle.channel.proofs.parked.count_pins.Statement.{statement}
 use Rattle.channel.proofs.parked.count_pins.Tie as tie
 

@@ -6,8 +6,9 @@ use mathlib.Core.Path.{_≡_, sym, _∙_, ap, subst}
 use mathlib.Core.List.{List}
 use lib.ListN.{getD}
 use Rattle.lists.specs.Lists.{overlay}
+use Rattle.lists.specs.Counts.{tally}
 use Rattle.channel.specs.Channel.{Channel, rows}
-use Rattle.channel.specs.Rows.{tally, netsOfRow}
+use Rattle.channel.specs.Rows.{netsOfRow}
 use Rattle.channel.specs.RowLaws.{zeros, zeros-within, counts-within}
 use Rattle.channel.specs.RemoveLaws.{top-within, bot-within, counted, tops-left, bots-left}
 use Rattle.channel.proofs.parked.remove_parked.Statement.{statement}

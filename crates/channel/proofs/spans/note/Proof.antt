@@ -5,7 +5,7 @@ use mathlib.Core.Logic.{⊎-elim}
 use lib.ListN.{getD}
 use borrow.Author.Needs.{needs}
 use borrow.Author.Tests.{eq-eqb, ne-eqb}
-use Rattle.channel.specs.Starts.{firstNoted}
+use Rattle.channel.specs.Spans.{firstNoted}
 use Rattle.channel.proofs.spans.note.Statement.{statement}
 use Rattle.channel.proofs.spans.note.Tie as tie
 

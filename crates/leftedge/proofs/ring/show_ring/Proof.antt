@@ -94,7 +94,8 @@ returns : tie.Need-returns
 returns c =
     let s = shown (c .before .before .before .before .before .before) in
     let a =
-    c .before .before .before .before .before .before .before .before .before .before .before .before .before .before .before .args in
+    c .before .before .before .before .before .before .before .before .before .before .before .before .before .before
+    .before .args in
     let stored = c .before .before .store-pairs in
     record {
       counted = s .counted;

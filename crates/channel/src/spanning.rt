@@ -1,0 +1,54 @@
+// The nets with spans, as a list in rising number.
+ghost use mathlib.Core.Path.{_≡_};
+ghost use lib.ListN.{length};
+ghost use Rattle.lists.specs.Lists.{greatest, overlay};
+ghost use Rattle.channel.specs.Channel.{rows, spanning};
+ghost use Rattle.channel.specs.Parked.{NetsOnly};
+ghost use Rattle.channel.specs.Spans.{firsts, lasts};
+use grid::NET_SLOTS;
+
+// The greatest number of a row, 0 if there is none.
+fn highest_number(row: &[u32]) -> u32
+    ensures { λ r. ⌜ r ≡ greatest (now (row .entry)) ⌝ }
+{
+    let mut highest: u32 = 0;
+    let mut i: usize = 0;
+    while i < row.len() {
+        if highest < row[i] {
+            highest = row[i];
+        }
+        i += 1;
+    }
+    highest
+}
+
+// Puts the nets with spans of a channel whose rows show nets only at the front of `items`; answers how many there are.
+// No number is looked at that is above those of the rows.
+pub fn list_spanning(
+    top: &[u32],
+    bot: &[u32],
+    first: &[u32; NET_SLOTS],
+    last: &[u32; NET_SLOTS],
+    items: &mut [u32],
+) -> usize
+    requires { ⌜ NetsOnly (rows (now top) (now bot)) × (now first ≡ firsts (rows (now top) (now bot)))
+        × (now last ≡ lasts (rows (now top) (now bot))) × (length (now items) ≡ 512) ⌝ }
+    ensures { λ r.
+        ⌜ (r ≡ length (spanning (rows (now (top .entry)) (now (bot .entry)))))
+        × (now (items .exit)
+        ≡ overlay (spanning (rows (now (top .entry)) (now (bot .entry)))) (now (items .entry))) ⌝ }
+{
+    let upper = highest_number(top);
+    let lower = highest_number(bot);
+    let highest = if upper < lower { lower } else { upper };
+    let mut count: usize = 0;
+    let mut n: u32 = 0;
+    while n < highest {
+        n += 1;
+        if first[n as usize] < last[n as usize] {
+            items[count] = n;
+            count += 1;
+        }
+    }
+    count
+}

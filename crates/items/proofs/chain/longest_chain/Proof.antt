@@ -1,0 +1,150 @@
+-- `items::chain::longest_chain` meets its contract. The loop's invariant is `PeelTurn`, for whatever is below the
+-- items: the queue has those peeled, those of the present level and those of the next. The items still to be peeled
+-- fall. A turn is `turn-level` or `turn-on`, then `turn-next`; the two ends are `turn-all` and `turn-never`.
+use Prim.Native.Nat.{ℕ, _+_, _-_, _≤_, _<_}
+use native.Mathlib.Omega.{arith}
+use mathlib.Core.Path.{_≡_, refl, sym, _∙_, subst₂}
+use mathlib.Core.List.{List}
+use mathlib.Core.Logic.{⊎-elim}
+use lib.ListN.{length, getD}
+use Rattle.items.specs.Depths.{StepsCounted}
+use Rattle.items.specs.PeelTurns.{PeelTurn, turn-start, turn-few, turn-order, turn-level, turn-on, turn-item}
+use Rattle.items.specs.PeelTurns.{turn-all, turn-never, turn-peels, turn-next}
+use Rattle.items.proofs.chain.longest_chain.Statement.{statement}
+use Rattle.items.proofs.chain.longest_chain.Tie as tie
+
+abbrev Inv-loop : tie.InvT-loop
+Inv-loop items upper head next under₀ queue₀ queued₀ done₀ level₀ levels₀ under queue queued done level levels =
+    (length under ≡ length under₀) × (length queue ≡ length queue₀)
+    × ((below : ℕ → List ℕ) → StepsCounted below items upper head next under₀
+    → PeelTurn below items under queue queued done level levels done)
+
+abbrev μ-loop : tie.MeasureT-loop
+μ-loop items upper head next under₀ queue₀ queued₀ done₀ level₀ levels₀ under queue queued done level levels =
+    length items - done
+
+abbrev At : Type 0
+At = tie.At-loop Inv-loop μ-loop
+
+abbrev start : At → tie.Start Inv-loop μ-loop
+start t = t .before .before .before .before .before .before .before .before .before .before .before .before
+
+-- the peeling so far, of what is known to be below the items
+so-far : (t : At) → PeelTurn (start t .pre .below) (start t .args .items .now) (t .loop .under) (t .loop .queue)
+    (t .loop .queued) (t .loop .done) (t .loop .level) (t .loop .levels) (t .loop .done)
+so-far t = t .loop .inv .2 (start t .pre .below) (start t .pre .steps)
+
+-- the queue keeps its length
+long : (t : At) → length (t .loop .queue) ≡ length (start t .args .queue .now)
+long t = t .loop .inv .1 ∙ t .before .before .before .queue-lowest .kept .1 .1 .0
+
+-- no more are queued than there are items, and no more levels than items are peeled
+small : (t : At) → (t .loop .queued ≤ length (start t .args .items .now)) × (t .loop .levels ≤ t .loop .done)
+    × (length (start t .args .items .now) < 4294967296)
+    × (length (start t .args .items .now) ≤ length (t .loop .queue))
+small t =
+    let p = start t .pre in
+    let same = long t in
+    let room = p .room in
+    (turn-few _ _ _ _ _ _ _ _ _ (so-far t), so-far t .few, p .few, omega arith)
+
+-- where the item of a turn is known to be of the present level
+abbrev Joined : Type 0
+Joined = tie.Joined1 Inv-loop μ-loop
+
+abbrev turn : Joined → At
+turn c = c .before .before
+
+abbrev Below : At → (ℕ → List ℕ) → Type 0
+Below t below =
+    StepsCounted below (start t .args .items .now) (start t .args .upper .now) (start t .args .head .now)
+    (start t .args .next .now) (start t .args .under .now)
+
+abbrev Level : At → (ℕ → List ℕ) → ℕ → ℕ → Type 0
+Level t below level levels =
+    PeelTurn below (start t .args .items .now) (t .loop .under) (t .loop .queue) (t .loop .queued) (t .loop .done) level
+    levels (t .loop .done + 1) × (t .loop .done < level)
+
+here : (c : Joined) (below : ℕ → List ℕ) → Below (turn c) below
+    → Level (turn c) below (c .if1 .level) (c .if1 .levels)
+here c below s =
+    let t = turn c in
+    let p = t .loop .inv .2 below s in
+    let some = c .before .loop-test .taken in
+    let low = p .few in
+    let o = turn-order _ _ _ _ _ _ _ _ _ p in
+    ⊎-elim (λ w. subst₂ (Level t below) (sym (w .1)) (sym (w .2)) (
+      turn-level _ _ _ _ _ _ _ _ _ p (w .0 .taken) some
+          low,
+      some,
+    ))
+    (λ w. let apart = w .0 .left in
+    subst₂ (Level t below) (sym (w .1)) (sym (w .2)) (turn-on _ _ _ _ _ _ _ _ _ p low, omega (arith, apart)))
+    (c .if1 .came)
+
+item-low : (c : Joined) → let t = turn c in
+    (getD (t .loop .queue) (t .loop .done) 0 < length (start t .args .head .now))
+    × (getD (t .loop .queue) (t .loop .done) 0 < length (start t .args .under .now))
+item-low c =
+    let t = turn c in
+    let p = start t .pre in
+    let h = here c (p .below) (p .steps) in
+    p .number _ (turn-item _ _ _ _ _ _ _ _ _ (h .0) (h .1))
+
+queue-lowest-requires : tie.Need-queue-lowest-requires Inv-loop μ-loop
+queue-lowest-requires c κs =
+    let p = c .before .before .before .before .before .before .before .before .pre in
+    (p .room, λ n m. p .number n m .1)
+
+loop-holds : tie.Need-loop-holds Inv-loop μ-loop
+loop-holds c =
+    let lowest = c .before .before .queue-lowest .ensures in
+    let p = c .before .before .before .before .before .before .before .before .before .before .before .pre in (
+      refl,
+      refl,
+      λ below s. rw (lowest .0, lowest .1) (turn-start below _ _ _ (p .distinct) (p .room) (s .counted)),
+    )
+
+peel-above-requires : tie.Need-peel-above-requires Inv-loop μ-loop
+peel-above-requires c κs =
+    let j = c .before .before .before .before in
+    let p = start (turn j) .pre in
+    let h = here j (p .below) (p .steps) in
+    turn-peels _ _ _ _ _ _ _ _ _ (h .0) _ _ _ (p .steps .stepped) (h .1) (small (turn j) .3)
+
+loop-again : tie.Need-loop-again Inv-loop μ-loop
+loop-again c =
+    let j = c .before .before .before .before .before .before .before .before .before in
+    let t = turn j in (
+      omega arith,
+      omega arith,
+      λ below s. let h = here j below s in
+          turn-next _ _ _ _ _ _ _ _ _ (h .0) _ _ _ (s .stepped) (h .1) (small t .3) _ _ _ (h .0 .few)
+          (c .before .before .before .before .peel-above .ensures),
+    )
+
+returns : tie.Need-returns Inv-loop μ-loop
+returns c below s =
+    let t = c .before .before in
+    let p = t .loop .inv .2 below s in
+    turn-all _ _ _ _ _ _ _ _ _ p _ _ _ (s .stepped) (c .before .loop-test .left) (p .few) (c .if2 .taken)
+
+returns-2 : tie.Need-returns-2 Inv-loop μ-loop
+returns-2 c below s =
+    let t = c .before .before in
+    let p = t .loop .inv .2 below s in
+    turn-never _ _ _ _ _ _ _ _ _ p _ _ _ (s .stepped) (c .before .loop-test .left) (start t .pre .distinct)
+    (c .if2 .left)
+
+pub longest-chain-spec : {M : Type 1} → statement M
+longest-chain-spec =
+    tie.close
+    (tie.spec Inv-loop μ-loop queue-lowest-requires loop-holds (λ c. omega (arith, small (c .before .before)))
+    (λ c. omega (arith, small (turn c))) (λ c. omega (arith, small (turn (c .before))))
+    (λ c. omega (arith, item-low (c .before))) (λ c. omega (arith, item-low (c .before)))
+    (λ c. item-low (c .before .before) .0) peel-above-requires
+    (λ c. omega (arith, small (turn (c .before .before .before .before .before .before .before .before .before))))
+    (λ c. omega (arith, small (turn (c .before .before .before .before .before .before .before .before .before))))
+    loop-again
+    (λ c. c .before .before .loop .inv .0) (λ c. long (c .before .before)) returns
+    (λ c. c .before .before .loop .inv .0) (λ c. long (c .before .before)) returns-2)

@@ -1,0 +1,13 @@
+pub mod Chains
+pub mod ChainLaws
+pub mod Order
+pub mod OrderLaws
+pub mod Density
+pub mod DensityLaws
+pub mod Steps
+pub mod StepLaws
+pub mod LinkLaws
+pub mod Depths
+pub mod PeelLaws
+pub mod DepthLaws
+pub mod PeelTurns

@@ -1,0 +1,140 @@
+// The fill of a channel: its nets with spans as items.
+ghost use mathlib.Core.Path.{_≡_};
+ghost use Prim.Native.Nat.{_≤_};
+ghost use mathlib.Core.List.{map};
+ghost use lib.ListN.{length, replicate};
+ghost use Rattle.lists.specs.Lists.{overlay};
+ghost use Rattle.refusal.specs.Trays.{ringTray};
+ghost use Rattle.grid.specs.Pieces.{track};
+ghost use Rattle.channel.specs.Channel.{rows};
+ghost use Rattle.channel.specs.Parked.{NetsOnly};
+ghost use Rattle.channel.specs.Spans.{SpansFound, firsts, lasts};
+ghost use Rattle.leftedge.specs.Nets.{fillOrder, netItems, fill};
+ghost use Rattle.leftedge.specs.Tables.{FillEnds};
+ghost use Rattle.leftedge.specs.Code.{FillDone, NetsBegin};
+use crate::Filled;
+use crate::Outcome;
+use crate::ring::show_ring;
+use crate::tracks::FillEnd;
+use crate::tracks::fill_items;
+use channel::Spans;
+use channel::list_spanning;
+use channel::plain_columns;
+use grid::COLUMN_SLOTS;
+use grid::NET_SLOTS;
+use grid::Track;
+
+// Numbers as tracks.
+fn typed_tracks(plain: [u32; NET_SLOTS]) -> [Track; NET_SLOTS]
+    ensures { λ r. ⌜ r ≡ map track plain ⌝ }
+{
+    let mut tracks = [Track(0); NET_SLOTS];
+    let mut i: usize = 0;
+    while i < NET_SLOTS {
+        tracks[i] = Track(plain[i]);
+        i += 1;
+    }
+    tracks
+}
+
+// The nets with spans at the front of `order`, in the order of the scan; answers how many there are.
+fn net_order(
+    top: &[u32],
+    bot: &[u32],
+    first: &[u32; NET_SLOTS],
+    last: &[u32; NET_SLOTS],
+    next: &mut [u16],
+    order: &mut [u32],
+) -> usize
+    requires { ⌜ NetsOnly (rows (now top) (now bot)) × (now first ≡ firsts (rows (now top) (now bot)))
+        × (now last ≡ lasts (rows (now top) (now bot))) × (length (now next) ≡ 513) × (length (now order) ≡ 512) ⌝ }
+    ensures { λ r.
+        ⌜ (r ≡ length (fillOrder (rows (now (top .entry)) (now (bot .entry)))))
+        × (now (order .exit)
+        ≡ overlay (fillOrder (rows (now (top .entry)) (now (bot .entry)))) (now (order .entry))) ⌝ }
+{
+    let w = top.len();
+    let mut head = [0u16; COLUMN_SLOTS];
+    let count = list_spanning(top, bot, first, last, order);
+    items::sort_items(&mut order[..count], first, &mut head[..w + 1], next);
+    count
+}
+
+// Fills tracks with the nets at the front of `left`, which are in the order of the scan.
+fn fill_nets(
+    top: &[u32],
+    bot: &[u32],
+    first: &[u32; NET_SLOTS],
+    last: &[u32; NET_SLOTS],
+    next: &mut [u16],
+    left: &mut [u32],
+    count: usize,
+    tracks: &mut [u32],
+) -> FillEnd
+    requires { ⌜ NetsBegin (rows (now top) (now bot)) (now first) (now last) (now left) count (now tracks)
+        × (length (now next) ≡ 513) ⌝ }
+    ensures { λ r.
+        ⌜ FillEnds (netItems (rows (now (top .entry)) (now (bot .entry))))
+        (fill (rows (now (top .entry)) (now (bot .entry)))) r (now (left .exit)) (now (tracks .exit)) ⌝ }
+{
+    let mut head = [0u16; NET_SLOTS];
+    let mut under = [0u16; NET_SLOTS];
+    items::link_steps(top, bot, &mut head, next, &mut under);
+    fill_items(
+        first,
+        last,
+        top,
+        &head,
+        next,
+        &mut under,
+        left,
+        count,
+        tracks,
+    )
+}
+
+// Fills the tracks of a channel whose rows show nets only. Where the fill is stuck, the ring's pairs fill the front of
+// `ring`, and no net has a track.
+pub fn fill_tracks(top: &[u32], bot: &[u32], spans: Spans, ring: &mut [u32]) -> Filled
+    requires { ⌜ NetsOnly (rows (now top) (now bot)) × SpansFound (rows (now top) (now bot)) spans
+        × (ringTray ≤ length (now ring)) ⌝ }
+    ensures { λ r.
+        ⌜ FillDone (rows (now (top .entry)) (now (bot .entry))) (now (ring .entry)) r (now (ring .exit)) ⌝ }
+{
+    let firsts = spans.first;
+    let lasts = spans.last;
+    let first = plain_columns(firsts);
+    let last = plain_columns(lasts);
+    let mut left = [0u32; NET_SLOTS];
+    let mut tracks = [0u32; NET_SLOTS];
+    // links of the nets by first column, then of the steps by lower net
+    let mut next = [0u16; COLUMN_SLOTS];
+    let count = net_order(top, bot, &first, &last, &mut next, &mut left);
+    let end = fill_nets(
+        top,
+        bot,
+        &first,
+        &last,
+        &mut next,
+        &mut left,
+        count,
+        &mut tracks,
+    );
+    match end {
+        FillEnd::Placed(t) => {
+            let placed = typed_tracks(tracks);
+            Filled {
+                outcome: Outcome::Placed(t),
+                tracks: placed,
+            }
+        }
+        FillEnd::Stuck(n) => {
+            let pairs = show_ring(top, bot, &tracks, &left, n, ring);
+            let nobody = [Track(0); NET_SLOTS];
+            Filled {
+                outcome: Outcome::Stuck(pairs),
+                tracks: nobody,
+            }
+        }
+    }
+}
