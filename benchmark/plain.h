@@ -71,21 +71,25 @@ struct plain_rows plain_leave_parked(const struct plain_rows *rows, struct plain
 
 void plain_find_spans(const struct plain_rows *rows, struct plain_spans *spans);
 
-/* The nets with spans that start in the column of index i, lower number first; answers how many there are, 0 to 2. */
-static inline int plain_starting(const struct plain_rows *rows, const struct plain_spans *spans, size_t i,
-                                 uint32_t starting[2])
-{
-    uint32_t a = rows->top[i], b = rows->bot[i], c = (uint32_t)i + 1;
-    bool one = a != 0 && spans->first[a] == c && c < spans->last[a];
-    bool two = a != b && b != 0 && spans->first[b] == c && c < spans->last[b];
-    if (one && two) {
-        starting[0] = a < b ? a : b;
-        starting[1] = a < b ? b : a;
-        return 2;
-    }
-    starting[0] = one ? a : b;
-    return one || two;
-}
+/* The nets with spans, in rising number; answers how many there are. */
+size_t plain_spanning(const struct plain_rows *rows, const struct plain_spans *spans, uint32_t items[PLAIN_NETS]);
+
+/* Sorts items that rise by first column, then number; what `next` then holds is free. */
+void plain_sort(uint32_t *items, size_t count, const uint32_t first[PLAIN_NETS], size_t width,
+                uint16_t next[PLAIN_COLUMNS + 1]);
+
+/* The steps of rows: for each item the lowest column in which it stands below another, for each such column the next
+ * one of the same item, 0 where there is none; and for each item how many steps below it lead to unplaced ones. */
+struct plain_steps {
+    uint16_t head[PLAIN_NETS], next[PLAIN_COLUMNS + 1], under[PLAIN_NETS];
+};
+
+void plain_link_steps(const struct plain_rows *rows, struct plain_steps *steps);
+
+uint32_t plain_density(const uint32_t *items, size_t count, const struct plain_spans *spans, size_t width);
+
+/* The most items on a path down, 0 where one returns to its start. */
+uint32_t plain_chain(const struct plain_rows *rows, struct plain_steps *steps, const uint32_t *items, size_t count);
 
 /* Fills the tracks: the track of each net by its number in `tracks`, which is zeroed first. Answers the number of
  * tracks; or, where the channel is tangled, minus the number of pairs put at the front of `ring`. */

@@ -3,42 +3,26 @@
 
 #include "plain.h"
 
-/* The nets with spans, in the order of the scan; answers how many there are. */
-static size_t fill_order(const struct plain_rows *rows, const struct plain_spans *spans, uint32_t order[PLAIN_NETS])
+/* Lowers the counts of the nets above net n, which is placed. */
+static void lower_above(const struct plain_rows *rows, struct plain_steps *steps, uint32_t n)
 {
-    size_t count = 0;
-    for (size_t i = 0; i < rows->width; i++) {
-        uint32_t starting[2];
-        int here = plain_starting(rows, spans, i, starting);
-        for (int k = 0; k < here; k++)
-            order[count++] = starting[k];
-    }
-    return count;
-}
-
-/* Marks each net that has a net without a track directly below it. */
-static void mark_blocked(const struct plain_rows *rows, const uint32_t tracks[PLAIN_NETS], uint8_t marks[PLAIN_NETS])
-{
-    memset(marks, 0, PLAIN_NETS * sizeof *marks);
-    for (size_t i = 0; i < rows->width; i++) {
-        uint32_t a = rows->top[i], b = rows->bot[i];
-        if (a != 0 && b != 0 && a != b && tracks[b] == 0)
-            marks[a] = 1;
-    }
+    for (uint16_t c = steps->head[n]; c != 0; c = steps->next[c])
+        steps->under[rows->top[c - 1]]--;
 }
 
 /* One scan of the nets left for track k: those placed get the track, the others move to the front. Answers how many
  * are left. */
-static size_t scan_track(const struct plain_spans *spans, const uint8_t marks[PLAIN_NETS], uint32_t left[PLAIN_NETS],
-                         size_t count, uint32_t tracks[PLAIN_NETS], uint32_t k)
+static size_t scan_track(const struct plain_rows *rows, const struct plain_spans *spans, struct plain_steps *steps,
+                         uint32_t left[PLAIN_NETS], size_t count, uint32_t tracks[PLAIN_NETS], uint32_t k)
 {
     uint32_t end = 0;
     size_t rest = 0;
     for (size_t i = 0; i < count; i++) {
         uint32_t n = left[i];
-        if (end < spans->first[n] && marks[n] == 0) {
+        if (end < spans->first[n] && steps->under[n] == 0) {
             tracks[n] = k;
             end = spans->last[n];
+            lower_above(rows, steps, n);
         } else {
             left[rest++] = n;
         }
@@ -92,13 +76,14 @@ int plain_fill(const struct plain_rows *rows, const struct plain_spans *spans, u
                uint32_t *ring)
 {
     uint32_t left[PLAIN_NETS];
-    uint8_t marks[PLAIN_NETS];
+    struct plain_steps steps;
     int done = 0;
     memset(tracks, 0, PLAIN_NETS * sizeof *tracks);
-    size_t count = fill_order(rows, spans, left);
+    size_t count = plain_spanning(rows, spans, left);
+    plain_sort(left, count, spans->first, rows->width, steps.next);
+    plain_link_steps(rows, &steps);
     while (count != 0) {
-        mark_blocked(rows, tracks, marks);
-        size_t rest = scan_track(spans, marks, left, count, tracks, (uint32_t)done + 1);
+        size_t rest = scan_track(rows, spans, &steps, left, count, tracks, (uint32_t)done + 1);
         if (rest == count)
             return -show_ring(rows, tracks, left, count, ring);
         count = rest;
