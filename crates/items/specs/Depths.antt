@@ -7,9 +7,9 @@ use mathlib.Core.Bool.{cond}
 use lib.ListN.{length, getD, set}
 use lib.Seq.{sets}
 use lib.Dec.{eqb}
-use Rattle.lists.specs.Lists.{greatest, at, Distinct}
+use Rattle.lists.specs.Lists.{greatest, at, isIn, overlay, Distinct}
 use Rattle.lists.specs.Counts.{lowered}
-use Rattle.items.specs.Steps.{Stepped, CanLower}
+use Rattle.items.specs.Steps.{waiting, Stepped, CanLower}
 
 -- the most items on a path down from n, counted as far as `fuel` items; `below` lists what is directly below each
 unfoldable pub depthBy : (ℕ → List ℕ) → ℕ → ℕ → ℕ
@@ -28,6 +28,17 @@ pub data Peeled (below : ℕ → List ℕ) (items : List ℕ) (r : ℕ) : Type 0
       → (r ≡ 0) ⊎ ((n : ℕ) × List·Memᴰ n items × Deep below n r) → Peeled below items r
   never-peeled : r ≡ 0 → (n : ℕ) → List·Memᴰ n items → ((fuel : ℕ) → fuel ≤ depthBy below fuel n)
       → Peeled below items r
+
+-- what `longest_chain` leaves: the peeled items in the queue's front, and for each item how many below it are not peeled;
+-- those with none are the peeled ones
+pub record PeelLeft (below : ℕ → List ℕ) (items queue under′ queue′ : List ℕ) : Type 0 where
+  pub gone : List ℕ
+  pub distinct : Distinct gone
+  pub inside : (n : ℕ) → List·Memᴰ n gone → List·Memᴰ n items
+  pub queues : queue′ ≡ overlay gone queue
+  pub waits : (n : ℕ) → getD under′ n 0 ≡ waiting (λ b. isIn b gone) (below n)
+  pub nothing : (n : ℕ) → List·Memᴰ n gone → getD under′ n 0 ≡ 0
+  pub clear : (n : ℕ) → List·Memᴰ n items → getD under′ n 0 ≡ 0 → List·Memᴰ n gone
 
 -- what is known of the items: which are directly below which, and how many steps lead down from each
 pub record StepsCounted (below : ℕ → List ℕ) (items us head next under : List ℕ) : Type 0 where

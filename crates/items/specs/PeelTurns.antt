@@ -4,46 +4,48 @@ use native.Mathlib.Numerals.{add-one}
 use native.Mathlib.Omega.{arith}
 use mathlib.Core.Path.{_≡_, refl, sym, _∙_, ap}
 use mathlib.Core.List.{List, [], _∷_, _++_, map, append-nil, append-assoc, List·Memᴰ, List·Memᴰ·head, Memᴰ·append-right}
-use lib.ListN.{length, getD, take, drop, length-append}
-use lib.Seq.{sets, sets-eq, length-sets, take-append-seam, take-at, getD-take, getD-at, length-take-le}
+use lib.ListN.{length, getD, take, length-append}
+use lib.Seq.{sets, length-sets, getD-take, getD-at}
 use lib.Dec.{eqb}
 use Rattle.lists.specs.Lists.{keep, at, overlay, Distinct}
 use Rattle.lists.specs.Pigeonhole.{length-keep, pigeonhole}
-use Rattle.lists.specs.Overlays.{length-overlay}
+use Rattle.lists.specs.Overlays.{length-overlay, front-of}
+use Rattle.lists.specs.Stores.{sets-append, sets-overlay}
 use Rattle.lists.specs.Counts.{lowered}
 use Rattle.items.specs.Chains.{Chained}
 use Rattle.items.specs.Steps.{Rises, Stepped}
-use Rattle.items.specs.Depths.{Peeled, freed, CanPeel, PeelDone}
+use Rattle.items.specs.Depths.{Peeled, PeelLeft, freed, CanPeel, PeelDone}
 use Rattle.items.specs.DepthLaws.{Peeling, peeling-start, peeling-level, peeling-peels, peeling-next}
 use Rattle.items.specs.DepthLaws.{peeling-all, peeling-never}
 
-module _ (below : ℕ → List ℕ) (items : List ℕ) where
+-- `before` is the queue before the first was put into it
+module _ (below : ℕ → List ℕ) (items before : List ℕ) where
   pub record PeelTurn (under queue : List ℕ) (queued done level levels bound : ℕ) : Type 0 where
     pub gone : List ℕ
     pub now : List ℕ
     pub ahead : List ℕ
     pub peeling : Peeling below items under gone now ahead levels
-    pub held : take queued queue ≡ gone ++ (now ++ ahead)
+    pub held : queue ≡ sets before 0 (gone ++ (now ++ ahead))
     pub doneIs : done ≡ length gone
     pub levelIs : level ≡ length gone + length now
     pub queuedIs : queued ≡ length gone + (length now + length ahead)
     pub room : queued ≤ length queue
     pub few : levels ≤ bound
 
-  pub turn-start : (under queue : List ℕ) → Distinct items → length items ≤ length queue
+  pub turn-start : (under : List ℕ) → Distinct items → length items ≤ length before
       → ((n : ℕ) → getD under n 0 ≡ length (below n))
-      → PeelTurn under (overlay (keep (λ n. eqb (getD under n 0) 0) items) queue)
+      → PeelTurn under (overlay (keep (λ n. eqb (getD under n 0) 0) items) before)
       (length (keep (λ n. eqb (getD under n 0) 0) items)) 0 0 0 0
-  turn-start under queue d room counted =
+  turn-start under d room counted =
       let lowest = keep (λ n. eqb (getD under n 0) 0) items in
       let fits = length-keep (λ n. eqb (getD under n 0) 0) items in
-      let long = length-overlay lowest queue (omega arith) in
+      let long = length-overlay lowest before (omega arith) in
       record {
         gone = [];
         now = [];
         ahead = lowest;
         peeling = peeling-start below items under d counted;
-        held = take-append-seam lowest (drop (length lowest) queue);
+        held = sym (sets-overlay before lowest (omega arith));
         doneIs = refl;
         levelIs = omega arith;
         queuedIs = omega arith;
@@ -61,6 +63,25 @@ module _ (below : ℕ → List ℕ) (items : List ℕ) where
         let q = t .queuedIs in
         omega (arith, length-append (t .gone) (t .now ++ t .ahead), length-append (t .now) (t .ahead))
 
+    abbrev all : List ℕ
+    all = t .gone ++ (t .now ++ t .ahead)
+
+    count-all : queued ≡ length all
+    count-all =
+        let q = t .queuedIs in
+        omega (arith, length-append (t .gone) (t .now ++ t .ahead), length-append (t .now) (t .ahead))
+
+    same-length : length queue ≡ length before
+    same-length = ap length (t .held) ∙ length-sets before 0 all
+
+    -- the queue's front
+    queue-is : queue ≡ overlay all before
+    queue-is =
+        let e = count-all in
+        let l = same-length in
+        let r = t .room in
+        t .held ∙ sets-overlay before all (omega arith)
+
     pub turn-order : (done ≤ level) × (level ≤ queued)
     turn-order = let a = t .doneIs in let b = t .levelIs in let c = t .queuedIs in omega arith
 
@@ -75,7 +96,7 @@ module _ (below : ℕ → List ℕ) (items : List ℕ) where
       where
         go : (now ahead : List ℕ) → length now ≡ 0 → 0 < length ahead → Peeling below items under (t .gone) now ahead
             levels
-            → take queued queue ≡ t .gone ++ (now ++ ahead) → queued ≡ length (t .gone) + length ahead
+            → queue ≡ sets before 0 (t .gone ++ (now ++ ahead)) → queued ≡ length (t .gone) + length ahead
             → PeelTurn under queue queued done queued (levels + 1) (done + 1)
         go (n ∷ now) ahead h k p held q = absurd (omega arith)
         go [] [] h k p held q = absurd (omega arith)
@@ -85,7 +106,7 @@ module _ (below : ℕ → List ℕ) (items : List ℕ) where
               now = n ∷ ahead;
               ahead = [];
               peeling = rw add-one (peeling-level below items under (t .gone) n ahead levels p);
-              held = held ∙ ap (λ (l : List ℕ). t .gone ++ l) (sym (append-nil (n ∷ ahead)));
+              held = held ∙ ap (λ (l : List ℕ). sets before 0 (t .gone ++ l)) (sym (append-nil (n ∷ ahead)));
               doneIs = t .doneIs;
               levelIs = q;
               queuedIs = omega arith;
@@ -126,7 +147,8 @@ module _ (below : ℕ → List ℕ) (items : List ℕ) where
         go (n ∷ now) e h =
             let o = turn-order in
             let here : getD queue done 0 ≡ n = sym (getD-take queued queue done 0 (omega arith))
-            ∙ (ap (λ (l : List ℕ). getD l done 0) (t .held ∙ ap (λ (l : List ℕ). t .gone ++ (l ++ t .ahead)) e)
+            ∙ (ap (λ (l : List ℕ). getD l done 0) (front-of all before count-all queue-is
+            ∙ ap (λ (l : List ℕ). t .gone ++ (l ++ t .ahead)) e)
             ∙ getD-at (t .gone) n (now ++ t .ahead) 0 done (sym (t .doneIs))) in
             record { now = now; begins = e ∙ ap (λ (m : ℕ). m ∷ now) (sym here) }
 
@@ -161,6 +183,20 @@ module _ (below : ℕ → List ℕ) (items : List ℕ) where
           let o = turn-order in
           peeling-never below items us head next steps under (t .gone) levels (gone-only h) d
           (λ e. fewer (omega arith))
+
+      pub turn-left : queued ≤ done → PeelLeft below items before under queue
+      turn-left h =
+          let p = gone-only h in
+          let e = ended h in
+          record {
+            gone = t .gone;
+            distinct = rw (append-nil (t .gone)) at (p .distinct);
+            inside = rw (append-nil (t .gone)) at (p .inside);
+            queues = rw (e .0, e .1, append-nil (t .gone)) at queue-is;
+            waits = p .waits;
+            nothing = rw (append-nil (t .gone)) at (p .nothing);
+            clear = rw (append-nil (t .gone)) at (p .clear);
+          }
 
       module _ (some : done < level) (long : length items ≤ length queue) where
         abbrev n : ℕ
@@ -219,9 +255,9 @@ module _ (below : ℕ → List ℕ) (items : List ℕ) where
               now = next-item some .now;
               ahead = t .ahead ++ free;
               peeling = rw (d .lowers) after;
-              held = rw (d .queues, d .counts) (held′
-                  ∙ (ap (λ (l : List ℕ). (t .gone ++ (l ++ t .ahead)) ++ free) (next-item some .begins) ∙ simp
-                  append-assoc));
+              held = d .queues ∙ (held′
+                  ∙ (ap (λ (l : List ℕ). sets before 0 ((t .gone ++ (l ++ t .ahead)) ++ free)) (next-item some .begins)
+                  ∙ simp append-assoc));
               doneIs = omega arith;
               levelIs = omega arith;
               queuedIs = omega arith;
@@ -229,11 +265,8 @@ module _ (below : ℕ → List ℕ) (items : List ℕ) where
               few = low;
             }
           where
-            held′ : take (queued + length free) (sets queue queued free) ≡ (t .gone ++ (t .now ++ t .ahead)) ++ free
+            held′ : sets queue queued free ≡ sets before 0 (all ++ free)
             held′ =
-                let k = counts in
-                let front = length-take-le queued queue (t .room) in
-                ap (take (queued + length free)) (sets-eq free queue queued (k .1))
-                ∙ (take-at (take queued queue ++ free) _ (queued + length free)
-                (length-append (take queued queue) free ∙ omega arith)
-                ∙ ap (λ (l : List ℕ). l ++ free) (t .held))
+                ap (λ (q : List ℕ). sets q queued free) (t .held)
+                ∙ (ap (λ (k : ℕ). sets (sets before 0 all) k free) (count-all ∙ omega arith)
+                ∙ sets-append before 0 all free)

@@ -7,7 +7,7 @@ ghost use lib.ListN.{length, getD};
 ghost use lib.Dec.{eqb};
 ghost use Rattle.lists.specs.Lists.{at, keep, overlay};
 ghost use Rattle.items.specs.Chains.{Chained};
-ghost use Rattle.items.specs.Depths.{Peeled, StepsCounted, Peelable, CanPeel, PeelDone};
+ghost use Rattle.items.specs.Depths.{Peeled, PeelLeft, StepsCounted, Peelable, CanPeel, PeelDone};
 
 // The items with nothing below them, at the front of `queue`; answers how many there are.
 fn queue_lowest(items: &[u32], under: &[u16], queue: &mut [u32]) -> usize
@@ -63,7 +63,7 @@ fn peel_above(
 }
 
 // The most items on a path down, 0 where an item is never peeled: it is on a ring, or above one. Each step is gone down
-// once; what is left in `under` and `queue` is free.
+// once; the items peeled are left in the front of `queue`, and in `under` how many below each item are not.
 pub fn longest_chain(
     items: &[u32],
     upper: &[u32],
@@ -76,7 +76,8 @@ pub fn longest_chain(
     ensures { λ r.
         ⌜ ((below : ℕ → List ℕ)
         → StepsCounted below (now (items .entry)) (now (upper .entry)) (now (head .entry)) (now (next .entry))
-        (now (under .entry)) → Peeled below (now (items .entry)) r) ⌝ }
+        (now (under .entry)) → Peeled below (now (items .entry)) r
+        × PeelLeft below (now (items .entry)) (now (queue .entry)) (now (under .exit)) (now (queue .exit))) ⌝ }
 {
     let mut queued = queue_lowest(items, under, queue);
     // the items peeled, those with which the present level ends, and the levels so far

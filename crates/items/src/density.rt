@@ -46,7 +46,7 @@ fn sweep(starts: &[u32], ends: &[u32]) -> u32
 }
 
 // The density of items from their first and last columns. `starts` and `ends` have a place for each column and one for
-// 0, all of them 0; what they hold afterwards is free.
+// 0, all of them 0, and are left with the counts.
 pub fn greatest_density(
     items: &[u32],
     first: &[u32],
@@ -56,9 +56,13 @@ pub fn greatest_density(
 ) -> u32
     requires { ⌜ Spanned (now items) (now first) (now last) (now starts) (now ends) ⌝ }
     ensures { λ r.
-        ⌜ r
+        ⌜ (r
         ≡ densest (byNumber (now (first .entry))) (byNumber (now (last .entry))) (now (items .entry))
-        (length (now (starts .entry)) - 1) ⌝ }
+        (length (now (starts .entry)) - 1))
+        × (now (starts .exit)
+        ≡ tally (map (byNumber (now (first .entry))) (now (items .entry))) (now (starts .entry)))
+        × (now (ends .exit)
+        ≡ tally (map (byNumber (now (last .entry))) (now (items .entry))) (now (ends .entry))) ⌝ }
 {
     count_columns(items, first, starts);
     count_columns(items, last, ends);

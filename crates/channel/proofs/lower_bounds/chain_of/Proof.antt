@@ -20,7 +20,7 @@ returns : tie.Need-returns
 returns c =
     let l = c .before .before .before .before .before .before .before .before .before .before in
     let p = l .before .before .before .before .before .before .before .pre in
-    nets-peeled (p .0) (p .1) (l .link-steps .ensures) (c .before .before .longest-chain .ensures)
+    nets-peeled (p .0) (p .1) (l .link-steps .ensures) (λ f s. c .before .before .longest-chain .ensures f s .0)
 
 pub chain-of-spec : {M : Type 1} → statement M
 chain-of-spec =

@@ -34,7 +34,7 @@ unfolding noCounts
 returns c =
     let s = c .before .before .before .before .before .before .before .before .before .before in
     let p = s .pre in
-    items-density (channel s) (p .0 .escapes) (p .1) (p .2) (p .3) (c .before .before .greatest-density .ensures)
+    items-density (channel s) (p .0 .escapes) (p .1) (p .2) (p .3) (c .before .before .greatest-density .ensures .0)
 
 pub density-of-spec : {M : Type 1} → statement M
 density-of-spec =

@@ -7,17 +7,20 @@ use mathlib.Core.Path.{_≡_, refl, sym, _∙_, subst₂}
 use mathlib.Core.List.{List}
 use mathlib.Core.Logic.{⊎-elim}
 use lib.ListN.{length, getD}
+use lib.Dec.{eqb}
+use Rattle.lists.specs.Lists.{keep, overlay}
 use Rattle.items.specs.Depths.{StepsCounted}
 use Rattle.items.specs.PeelTurns.{PeelTurn, turn-start, turn-few, turn-order, turn-level, turn-on, turn-item}
-use Rattle.items.specs.PeelTurns.{turn-all, turn-never, turn-peels, turn-next}
+use Rattle.items.specs.PeelTurns.{turn-all, turn-never, turn-left, turn-peels, turn-next}
 use Rattle.items.proofs.chain.longest_chain.Statement.{statement}
 use Rattle.items.proofs.chain.longest_chain.Tie as tie
 
 abbrev Inv-loop : tie.InvT-loop
 Inv-loop items upper head next under₀ queue₀ queued₀ done₀ level₀ levels₀ under queue queued done level levels =
     (length under ≡ length under₀) × (length queue ≡ length queue₀)
-    × ((below : ℕ → List ℕ) → StepsCounted below items upper head next under₀
-    → PeelTurn below items under queue queued done level levels done)
+    × ((below : ℕ → List ℕ) → StepsCounted below items upper head next under₀ → (before : List ℕ)
+    → queue₀ ≡ overlay (keep (λ n. eqb (getD under₀ n 0) 0) items) before → length items ≤ length before
+    → PeelTurn below items before under queue queued done level levels done)
 
 abbrev μ-loop : tie.MeasureT-loop
 μ-loop items upper head next under₀ queue₀ queued₀ done₀ level₀ levels₀ under queue queued done level levels =
@@ -29,10 +32,24 @@ At = tie.At-loop Inv-loop μ-loop
 abbrev start : At → tie.Start Inv-loop μ-loop
 start t = t .before .before .before .before .before .before .before .before .before .before .before .before
 
+abbrev Below : At → (ℕ → List ℕ) → Type 0
+Below t below =
+    StepsCounted below (start t .args .items .now) (start t .args .upper .now) (start t .args .head .now)
+    (start t .args .next .now) (start t .args .under .now)
+
 -- the peeling so far, of what is known to be below the items
-so-far : (t : At) → PeelTurn (start t .pre .below) (start t .args .items .now) (t .loop .under) (t .loop .queue)
-    (t .loop .queued) (t .loop .done) (t .loop .level) (t .loop .levels) (t .loop .done)
-so-far t = t .loop .inv .2 (start t .pre .below) (start t .pre .steps)
+abbrev SoFar : At → (ℕ → List ℕ) → List ℕ → Type 0
+SoFar t below before =
+    PeelTurn below (start t .args .items .now) before (t .loop .under) (t .loop .queue) (t .loop .queued)
+    (t .loop .done) (t .loop .level) (t .loop .levels) (t .loop .done)
+
+so-far : (t : At) (below : ℕ → List ℕ) → Below t below → SoFar t below (start t .args .queue .now)
+so-far t below s =
+    t .loop .inv .2 below s (start t .args .queue .now) (t .before .before .before .queue-lowest .ensures .1)
+    (start t .pre .room)
+
+known : (t : At) → SoFar t (start t .pre .below) (start t .args .queue .now)
+known t = so-far t (start t .pre .below) (start t .pre .steps)
 
 -- the queue keeps its length
 long : (t : At) → length (t .loop .queue) ≡ length (start t .args .queue .now)
@@ -46,7 +63,7 @@ small t =
     let p = start t .pre in
     let same = long t in
     let room = p .room in
-    (turn-few _ _ _ _ _ _ _ _ _ (so-far t), so-far t .few, p .few, omega arith)
+    (turn-few _ _ _ _ _ _ _ _ _ _ (known t), known t .few, p .few, omega arith)
 
 -- where the item of a turn is known to be of the present level
 abbrev Joined : Type 0
@@ -55,31 +72,25 @@ Joined = tie.Joined1 Inv-loop μ-loop
 abbrev turn : Joined → At
 turn c = c .before .before
 
-abbrev Below : At → (ℕ → List ℕ) → Type 0
-Below t below =
-    StepsCounted below (start t .args .items .now) (start t .args .upper .now) (start t .args .head .now)
-    (start t .args .next .now) (start t .args .under .now)
-
-abbrev Level : At → (ℕ → List ℕ) → ℕ → ℕ → Type 0
-Level t below level levels =
-    PeelTurn below (start t .args .items .now) (t .loop .under) (t .loop .queue) (t .loop .queued) (t .loop .done) level
+abbrev Level : At → (ℕ → List ℕ) → List ℕ → ℕ → ℕ → Type 0
+Level t below before level levels =
+    PeelTurn below (start t .args .items .now) before (t .loop .under) (t .loop .queue) (t .loop .queued) (t .loop .done) level
     levels (t .loop .done + 1) × (t .loop .done < level)
 
-here : (c : Joined) (below : ℕ → List ℕ) → Below (turn c) below
-    → Level (turn c) below (c .if1 .level) (c .if1 .levels)
-here c below s =
+here : (c : Joined) (below : ℕ → List ℕ) (before : List ℕ) → SoFar (turn c) below before
+    → Level (turn c) below before (c .if1 .level) (c .if1 .levels)
+here c below before p =
     let t = turn c in
-    let p = t .loop .inv .2 below s in
     let some = c .before .loop-test .taken in
     let low = p .few in
-    let o = turn-order _ _ _ _ _ _ _ _ _ p in
-    ⊎-elim (λ w. subst₂ (Level t below) (sym (w .1)) (sym (w .2)) (
-      turn-level _ _ _ _ _ _ _ _ _ p (w .0 .taken) some
+    let o = turn-order _ _ _ _ _ _ _ _ _ _ p in
+    ⊎-elim (λ w. subst₂ (Level t below before) (sym (w .1)) (sym (w .2)) (
+      turn-level _ _ _ _ _ _ _ _ _ _ p (w .0 .taken) some
           low,
       some,
     ))
     (λ w. let apart = w .0 .left in
-    subst₂ (Level t below) (sym (w .1)) (sym (w .2)) (turn-on _ _ _ _ _ _ _ _ _ p low, omega (arith, apart)))
+    subst₂ (Level t below before) (sym (w .1)) (sym (w .2)) (turn-on _ _ _ _ _ _ _ _ _ _ p low, omega (arith, apart)))
     (c .if1 .came)
 
 item-low : (c : Joined) → let t = turn c in
@@ -88,8 +99,8 @@ item-low : (c : Joined) → let t = turn c in
 item-low c =
     let t = turn c in
     let p = start t .pre in
-    let h = here c (p .below) (p .steps) in
-    p .number _ (turn-item _ _ _ _ _ _ _ _ _ (h .0) (h .1))
+    let h = here c _ _ (known t) in
+    p .number _ (turn-item _ _ _ _ _ _ _ _ _ _ (h .0) (h .1))
 
 queue-lowest-requires : tie.Need-queue-lowest-requires Inv-loop μ-loop
 queue-lowest-requires c κs =
@@ -102,15 +113,15 @@ loop-holds c =
     let p = c .before .before .before .before .before .before .before .before .before .before .before .pre in (
       refl,
       refl,
-      λ below s. rw (lowest .0, lowest .1) (turn-start below _ _ _ (p .distinct) (p .room) (s .counted)),
+      λ below s before e long. rw (lowest .0, e) (turn-start below _ before _ (p .distinct) long (s .counted)),
     )
 
 peel-above-requires : tie.Need-peel-above-requires Inv-loop μ-loop
 peel-above-requires c κs =
     let j = c .before .before .before .before in
     let p = start (turn j) .pre in
-    let h = here j (p .below) (p .steps) in
-    turn-peels _ _ _ _ _ _ _ _ _ (h .0) _ _ _ (p .steps .stepped) (h .1) (small (turn j) .3)
+    let h = here j _ _ (known (turn j)) in
+    turn-peels _ _ _ _ _ _ _ _ _ _ (h .0) _ _ _ (p .steps .stepped) (h .1) (small (turn j) .3)
 
 loop-again : tie.Need-loop-again Inv-loop μ-loop
 loop-again c =
@@ -118,23 +129,28 @@ loop-again c =
     let t = turn j in (
       omega arith,
       omega arith,
-      λ below s. let h = here j below s in
-          turn-next _ _ _ _ _ _ _ _ _ (h .0) _ _ _ (s .stepped) (h .1) (small t .3) _ _ _ (h .0 .few)
+      λ below s before e long. let h = here j below before (t .loop .inv .2 below s before e long) in
+          turn-next _ _ _ _ _ _ _ _ _ _ (h .0) _ _ _ (s .stepped) (h .1) (small t .3) _ _ _ (h .0 .few)
           (c .before .before .before .before .peel-above .ensures),
     )
 
 returns : tie.Need-returns Inv-loop μ-loop
 returns c below s =
     let t = c .before .before in
-    let p = t .loop .inv .2 below s in
-    turn-all _ _ _ _ _ _ _ _ _ p _ _ _ (s .stepped) (c .before .loop-test .left) (p .few) (c .if2 .taken)
+    let p = so-far t below s in
+    let left = c .before .loop-test .left in (
+      turn-all _ _ _ _ _ _ _ _ _ _ p _ _ _ (s .stepped) left (p .few) (c .if2 .taken),
+      turn-left _ _ _ _ _ _ _ _ _ _ p _ _ _ (s .stepped) left,
+    )
 
 returns-2 : tie.Need-returns-2 Inv-loop μ-loop
 returns-2 c below s =
     let t = c .before .before in
-    let p = t .loop .inv .2 below s in
-    turn-never _ _ _ _ _ _ _ _ _ p _ _ _ (s .stepped) (c .before .loop-test .left) (start t .pre .distinct)
-    (c .if2 .left)
+    let p = so-far t below s in
+    let left = c .before .loop-test .left in (
+      turn-never _ _ _ _ _ _ _ _ _ _ p _ _ _ (s .stepped) left (start t .pre .distinct) (c .if2 .left),
+      turn-left _ _ _ _ _ _ _ _ _ _ p _ _ _ (s .stepped) left,
+    )
 
 pub longest-chain-spec : {M : Type 1} → statement M
 longest-chain-spec =

@@ -38,9 +38,9 @@ returns : tie.Need-returns
 returns c =
     let two = c .before .before .before .before .before in
     let one = two .before .before .before .before in
-    c .sweep .ensures
-    ∙ swept-densest (one .before .before .before .before .before .before .before .pre) (one .count-columns .ensures)
-    (two .count-columns2 .ensures)
+    let most = swept-densest (one .before .before .before .before .before .before .before .pre)
+    (one .count-columns .ensures) (two .count-columns2 .ensures) in
+    (c .sweep .ensures ∙ most, one .count-columns .ensures, two .count-columns2 .ensures)
 
 pub greatest-density-spec : {M : Type 1} → statement M
 greatest-density-spec =

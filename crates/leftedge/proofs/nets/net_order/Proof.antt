@@ -67,7 +67,7 @@ returns c =
     let found = l .list-spanning .ensures in
     let long = order-length (channel l) (p .0 .escapes) in
     let sorted : c .before .before .before .before .before .sort-items .last .0 ≡ fillOrder (channel l) =
-    c .before .before .before .before .before .sort-items .ensures
+    c .before .before .before .before .before .sort-items .ensures .0
     ∙ (net-sorted (channel l) (p .0 .escapes) (listed l) (p .1) (p .2) ∙ sym (order-sorted (channel l))) in (
       found .0 ∙ sym long,
       front-again (spanning (channel l)) _ (start l .args .order .now) sorted (found .0)
