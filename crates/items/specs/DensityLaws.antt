@@ -166,3 +166,58 @@ swept-next starts ends (suc c) h =
     let last : 1 + c ≡ suc c = omega arith in
     let most = rw before at (greatest-map-last (holdingBy starts ends) (upTo c) (suc c)) in
     rw (here, before) (refl, rw (from-snoc, last) most)
+
+-- those over column c can be counted, and no more end there
+pub swept-counted : {starts ends : List ℕ} (c on : ℕ) → Sweepable starts ends → 0 < c → on ≡ carried starts ends (c - 1)
+    → (getD ends c 0 ≤ on + getD starts c 0) × (on + getD starts c 0 < 4294967296)
+unfolding holdingBy
+swept-counted zero on s h e = absurd (omega arith)
+swept-counted {starts} {ends} (suc c) on s h e =
+    let before : suc c - 1 ≡ c = omega arith in
+    let here = rw before at e in
+    omega (arith, rw before at (s .ended c), rw before at (s .few c))
+
+-- the sweep has come to column c, with `on` items carried past the column before and `most` the greatest number so far
+pub record Swept (starts ends : List ℕ) (c on most : ℕ) : Type 0 where
+  pub positive : 0 < c
+  pub inside : c - 1 ≤ length starts - 1
+  pub carries : on ≡ carried starts ends (c - 1)
+  pub greatest-so-far : most ≡ greatest (map (holdingBy starts ends) (upTo (c - 1)))
+
+pub swept-none : (starts ends : List ℕ) → Swept starts ends 1 0 0
+unfolding carried greatest Rattle.lists.specs.Lists.from
+swept-none starts ends =
+    record { positive = omega arith; inside = omega arith; carries = refl; greatest-so-far = refl }
+
+module _ {starts ends : List ℕ} {c on most : ℕ} (s : Swept starts ends c on most) (low : c < length starts) where
+  pub swept-more : most < on + getD starts c 0
+      → Swept starts ends (c + 1) (on + getD starts c 0 - getD ends c 0) (on + getD starts c 0)
+  unfolding holdingBy
+  swept-more h =
+      let next = swept-next starts ends c (s .positive) in
+      record {
+        positive = omega arith;
+        inside = omega arith;
+        carries = omega arith;
+        greatest-so-far = omega arith;
+      }
+
+  pub swept-same : on + getD starts c 0 ≤ most
+      → Swept starts ends (c + 1) (on + getD starts c 0 - getD ends c 0) most
+  unfolding holdingBy
+  swept-same h =
+      let next = swept-next starts ends c (s .positive) in
+      record {
+        positive = omega arith;
+        inside = omega arith;
+        carries = omega arith;
+        greatest-so-far = omega arith;
+      }
+
+-- past the last column it has the greatest number of all
+pub swept-all : {starts ends : List ℕ} {c on most : ℕ} → Swept starts ends c on most → length starts ≤ c
+    → most ≡ greatest (map (holdingBy starts ends) (upTo (length starts - 1)))
+swept-all {starts} {c = c} s h =
+    let i = s .inside in
+    let all : c - 1 ≡ length starts - 1 = omega arith in
+    rw all at (s .greatest-so-far)

@@ -29,8 +29,8 @@ pub data Peeled (below : ℕ → List ℕ) (items : List ℕ) (r : ℕ) : Type 0
   never-peeled : r ≡ 0 → (n : ℕ) → List·Memᴰ n items → ((fuel : ℕ) → fuel ≤ depthBy below fuel n)
       → Peeled below items r
 
--- what `longest_chain` leaves: the peeled items in the queue's front, and for each item how many below it are not peeled;
--- those with none are the peeled ones
+-- what `longest_chain` leaves: the peeled items in the queue's front, and for each item how many below it are not
+-- peeled; those with none are the peeled ones
 pub record PeelLeft (below : ℕ → List ℕ) (items queue under′ queue′ : List ℕ) : Type 0 where
   pub gone : List ℕ
   pub distinct : Distinct gone

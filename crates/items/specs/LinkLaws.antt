@@ -13,7 +13,7 @@ use borrow.Author.Tests.{eq-eqb, ne-eqb}
 use Rattle.lists.specs.Lists.{keep, from, upTo, at}
 use Rattle.lists.specs.Tests.{same-test, eq→T, and-left, and-right, and-both, equal?}
 use Rattle.lists.specs.Members.{keep-member, from-member, upTo-member}
-use Rattle.lists.specs.Ends.{from-rising, keep-rising, at-suc}
+use Rattle.lists.specs.Ends.{from-rising, keep-rising, at-suc, at-pred}
 use Rattle.lists.specs.Ranges.{length-keep-map}
 use Rattle.lists.specs.Places.{keep-keep, length-from}
 use Rattle.lists.specs.Pigeonhole.{length-keep}
@@ -194,3 +194,63 @@ module _ (us ls : List ℕ) where
             sym (r .2),
             and-left (isStep us ls (r .0)) (eqb (at us (r .0)) a) k,
           )
+
+-- what the code asks of a place: the tables, as they were and as they are, have places for it and for its two items
+pub record StepPlace (us ls head next under head′ next′ under′ : List ℕ) (i : ℕ) : Type 0 where
+  pub place : suc (i - 1) ≡ i
+  pub falls : i - 1 < i
+  pub inside : i - 1 < length us
+  pub even : i - 1 < length ls
+  pub few : i < 65536
+  pub linked : i < length next
+  pub upper : getD us (i - 1) 0 < length under
+  pub lower : getD ls (i - 1) 0 < length head
+  pub linkedNow : i < length next′
+  pub upperNow : getD us (i - 1) 0 < length under′
+  pub lowerNow : getD ls (i - 1) 0 < length head′
+  pub count : getD under′ (getD us (i - 1) 0) 0 + 1 < 65536
+
+module _ {us ls head next under head′ next′ under′ : List ℕ} {i : ℕ} (r : StepRows us ls head next under)
+    (h : LinkedPast us ls (length head) (length next) (length under) i head′ next′ under′) where
+  pub step-none : i ≤ 0 → StepsLinked us ls head′ next′ under′
+  step-none z = let e : i ≡ 0 = omega arith in linked-all us ls _ _ _ _ _ _ (rw e at h)
+
+  module _ (positive : 0 < i) where
+    unfoldable pub step-place : StepPlace us ls head next under head′ next′ under′ i
+    step-place =
+        let here : suc (i - 1) ≡ i = omega arith in
+        let past = h .inside in
+        let room = r .room in
+        let few = r .few in
+        let even = r .even in
+        let linked : i < length next = omega arith in
+        let upper = rw (at-pred us i positive) at (r .upper i) in
+        let lower = rw (at-pred ls i positive) at (r .lower i) in
+        let n = few-counted us ls _ _ _ _ _ _ _ (rw (← here) at h) (getD us (i - 1) 0) in
+        record {
+          place = here;
+          falls = omega arith;
+          inside = omega arith;
+          even = omega arith;
+          few = omega arith;
+          linked = linked;
+          upper = upper;
+          lower = lower;
+          linkedNow = rw (h .nextLong) linked;
+          upperNow = rw (h .underLong) upper;
+          lowerNow = rw (h .headLong) lower;
+          count = omega arith;
+        }
+
+    pub step-taken : isStep us ls (suc (i - 1)) ≡ true
+        → LinkedPast us ls (length head) (length next) (length under) (i - 1) (set head′ (getD ls (i - 1) 0) i)
+        (set next′ i (getD head′ (getD ls (i - 1) 0) 0))
+        (set under′ (getD us (i - 1) 0) (getD under′ (getD us (i - 1) 0) 0 + 1))
+    step-taken step =
+        let k = step-place in
+        rw (k .place) at (one-step us ls _ _ _ _ _ _ _ (rw (← k .place) at h) step (k .upper) (k .lower)
+        (rw (k .place) (k .linked)))
+
+    pub step-left : isStep us ls (suc (i - 1)) ≡ false
+        → LinkedPast us ls (length head) (length next) (length under) (i - 1) head′ next′ under′
+    step-left none = no-step us ls _ _ _ _ _ _ _ (rw (← step-place .place) at h) none

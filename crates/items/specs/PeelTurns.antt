@@ -1,5 +1,5 @@
 -- The peeling as the code carries it: the queue has those gone, those of the present level and those ahead, end to end.
-use Prim.Native.Nat.{ℕ, suc, _+_, _≤_, _<_}
+use Prim.Native.Nat.{ℕ, suc, _+_, _-_, _≤_, _<_}
 use native.Mathlib.Numerals.{add-one}
 use native.Mathlib.Omega.{arith}
 use mathlib.Core.Path.{_≡_, refl, sym, _∙_, ap}
@@ -62,6 +62,19 @@ module _ (below : ℕ → List ℕ) (items before : List ℕ) where
         let most = pigeonhole (t .gone ++ (t .now ++ t .ahead)) items (p .distinct) (p .inside) in
         let q = t .queuedIs in
         omega (arith, length-append (t .gone) (t .now ++ t .ahead), length-append (t .now) (t .ahead))
+
+    -- while one is left to peel, it has a place, and it and the levels can be counted
+    pub turn-place : {room : ℕ} → done < queued → length items ≤ room → done < room
+    turn-place some r = let f = turn-few in omega arith
+
+    pub turn-done : done < queued → length items < 4294967296 → done + 1 < 4294967296
+    turn-done some r = let f = turn-few in omega arith
+
+    pub turn-levels : done < queued → length items < 4294967296 → levels ≤ done → levels + 1 < 4294967296
+    turn-levels some r low = let f = turn-few in omega arith
+
+    pub turn-falls : done < queued → length items - (done + 1) < length items - done
+    turn-falls some = let f = turn-few in omega arith
 
     abbrev all : List ℕ
     all = t .gone ++ (t .now ++ t .ahead)

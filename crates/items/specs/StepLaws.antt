@@ -113,11 +113,11 @@ module _ (us next under₀ : List ℕ) (start : ℕ) where
       enough n = rw (split .begins, at-pred us c (split .positive)) at (l .can .enough n)
 
       -- the place is one of the row and of the links, and its upper item has a count to lower
-      pub here : (0 < c) × (c < length next) × (c ≤ length us) × (upper < length under) × (1 ≤ getD under upper 0)
+      pub here : (0 < c) × (c < length next) × (c - 1 < length us) × (upper < length under) × (1 ≤ getD under upper 0)
       here = (
         split .positive,
         split .low,
-        l .can .inRow c (rw (split .begins) (List·Memᴰ·head refl)),
+        (let p = split .positive in let i = l .can .inRow c (rw (split .begins) (List·Memᴰ·head refl)) in omega arith),
         counted-inside upper (map (at us) (split .rest)) under enough,
         (let e = enough upper in let t = times-same upper (map (at us) (split .rest)) in omega arith),
       )

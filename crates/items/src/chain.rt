@@ -22,42 +22,41 @@ fn queue_lowest(items: &[u32], under: &[u16], queue: &mut [u32]) -> usize
     let mut i: usize = 0;
     while i < items.len() {
         let n = items[i];
+        i += 1;
         if under[n as usize] == 0 {
             queue[queued] = n;
             queued += 1;
         }
-        i += 1;
     }
     queued
 }
 
 // Lowers the count of the upper item of each place linked from `start`; those with nothing left below go behind the
-// first `count` of the queue. Answers how many there are then.
+// first `queued` of the queue. Answers how many there are then.
 fn peel_above(
     upper: &[u32],
     next: &[u16],
     start: u16,
     under: &mut [u16],
     queue: &mut [u32],
-    count: usize,
+    mut queued: usize,
 ) -> usize
-    requires { ⌜ CanPeel (now upper) (now next) start (now under) (now queue) count ⌝ }
+    requires { ⌜ CanPeel (now upper) (now next) start (now under) (now queue) queued ⌝ }
     ensures { λ r.
         ⌜ ((cs : List ℕ) → Chained (now (next .entry)) start cs
-        → PeelDone (map (at (now (upper .entry))) cs) (now (under .entry)) (now (queue .entry)) count
+        → PeelDone (map (at (now (upper .entry))) cs) (now (under .entry)) (now (queue .entry)) queued
         (now (under .exit)) (now (queue .exit)) r) ⌝ }
 {
-    let mut c = start;
-    let mut queued = count;
+    let mut c = start as usize;
     while c != 0 {
-        let a = upper[c as usize - 1];
-        let left = under[a as usize] - 1;
-        under[a as usize] = left;
+        let a = upper[c - 1] as usize;
+        let left = under[a] - 1;
+        under[a] = left;
+        c = next[c] as usize;
         if left == 0 {
-            queue[queued] = a;
+            queue[queued] = a as u32;
             queued += 1;
         }
-        c = next[c as usize];
     }
     queued
 }

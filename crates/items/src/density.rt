@@ -17,8 +17,9 @@ fn count_columns(items: &[u32], columns: &[u32], counts: &mut [u32])
 {
     let mut i: usize = 0;
     while i < items.len() {
-        let c = columns[items[i] as usize] as usize;
-        counts[c] = counts[c] + 1;
+        let n = items[i] as usize;
+        let c = columns[n] as usize;
+        counts[c] += 1;
         i += 1;
     }
 }
@@ -36,11 +37,11 @@ fn sweep(starts: &[u32], ends: &[u32]) -> u32
     let mut c: usize = 1;
     while c < starts.len() {
         let here = carried + starts[c];
+        carried = here - ends[c];
+        c += 1;
         if most < here {
             most = here;
         }
-        carried = here - ends[c];
-        c += 1;
     }
     most
 }

@@ -22,13 +22,14 @@ pub fn link_steps(
 {
     let mut i = upper.len();
     while 0 < i {
+        let c = i;
         i -= 1;
-        let a = upper[i];
-        let b = lower[i];
+        let a = upper[i] as usize;
+        let b = lower[i] as usize;
         if (a != 0) & (b != 0) & (a != b) {
-            next[i + 1] = head[b as usize];
-            head[b as usize] = i as u16 + 1;
-            under[a as usize] = under[a as usize] + 1;
+            next[c] = head[b];
+            head[b] = c as u16;
+            under[a] += 1;
         }
     }
 }
@@ -40,10 +41,10 @@ pub fn lower_above(upper: &[u32], next: &[u16], start: u16, under: &mut [u16])
         ⌜ ((cs : List ℕ) → Chained (now (next .entry)) start cs
         → now (under .exit) ≡ lowered (map (at (now (upper .entry))) cs) (now (under .entry))) ⌝ }
 {
-    let mut c = start;
+    let mut c = start as usize;
     while c != 0 {
-        let a = upper[c as usize - 1] as usize;
-        under[a] = under[a] - 1;
-        c = next[c as usize];
+        let a = upper[c - 1] as usize;
+        under[a] -= 1;
+        c = next[c] as usize;
     }
 }

@@ -7,10 +7,13 @@ use mathlib.Core.Path.{_≡_, refl, sym, _∙_, subst₂}
 use mathlib.Core.List.{List}
 use mathlib.Core.Logic.{⊎-elim}
 use lib.ListN.{length, getD}
+use mir.Facts.{fits-widen}
+use borrow.Author.Needs.{scaled-fits, fits-under}
 use lib.Dec.{eqb}
 use Rattle.lists.specs.Lists.{keep, overlay}
 use Rattle.items.specs.Depths.{StepsCounted}
-use Rattle.items.specs.PeelTurns.{PeelTurn, turn-start, turn-few, turn-order, turn-level, turn-on, turn-item}
+use Rattle.items.specs.PeelTurns.{turn-place, turn-done, turn-levels, turn-falls}
+use Rattle.items.specs.PeelTurns.{PeelTurn, turn-start, turn-order, turn-level, turn-on, turn-item}
 use Rattle.items.specs.PeelTurns.{turn-all, turn-never, turn-left, turn-peels, turn-next}
 use Rattle.items.proofs.chain.longest_chain.Statement.{statement}
 use Rattle.items.proofs.chain.longest_chain.Tie as tie
@@ -55,15 +58,13 @@ known t = so-far t (start t .pre .below) (start t .pre .steps)
 long : (t : At) → length (t .loop .queue) ≡ length (start t .args .queue .now)
 long t = t .loop .inv .1 ∙ t .before .before .before .queue-lowest .kept .1 .1 .0
 
--- no more are queued than there are items, and no more levels than items are peeled
-small : (t : At) → (t .loop .queued ≤ length (start t .args .items .now)) × (t .loop .levels ≤ t .loop .done)
-    × (length (start t .args .items .now) < 4294967296)
-    × (length (start t .args .items .now) ≤ length (t .loop .queue))
-small t =
-    let p = start t .pre in
-    let same = long t in
-    let room = p .room in
-    (turn-few _ _ _ _ _ _ _ _ _ _ (known t), known t .few, p .few, omega arith)
+room : (t : At) → length (start t .args .items .now) ≤ length (t .loop .queue)
+room t = rw (long t) (start t .pre .room)
+
+-- the item of a turn has a place in the queue
+place : (i : tie.In-loop Inv-loop μ-loop)
+    → i .before .loop .done < length (start (i .before) .args .queue .now)
+place i = turn-place _ _ _ _ _ _ _ _ _ _ (known (i .before)) (i .loop-test .taken) (start (i .before) .pre .room)
 
 -- where the item of a turn is known to be of the present level
 abbrev Joined : Type 0
@@ -102,6 +103,26 @@ item-low c =
     let h = here c _ _ (known t) in
     p .number _ (turn-item _ _ _ _ _ _ _ _ _ _ (h .0) (h .1))
 
+-- the turn, from where it ends
+abbrev joined : tie.After-slice-known6 Inv-loop μ-loop → Joined
+joined c = c .before .before .before .before .before .before .before .before .before
+
+add-levels : tie.Need-add-levels Inv-loop μ-loop
+add-levels c =
+    let t = c .before .before in
+    let k = known t in
+    fits-under _ _ 4294967296
+    (turn-levels _ _ _ _ _ _ _ _ _ _ k (c .before .loop-test .taken) (start t .pre .few) (k .few)) tt
+
+add-done : tie.Need-add-done Inv-loop μ-loop
+add-done c =
+    let t = turn (joined c) in
+    fits-under _ _ 4294967296
+    (turn-done _ _ _ _ _ _ _ _ _ _ (known t) (joined c .before .loop-test .taken) (start t .pre .few)) tt
+
+loop-less : tie.Need-loop-less Inv-loop μ-loop
+loop-less c = turn-falls _ _ _ _ _ _ _ _ _ _ (known (turn (joined c))) (joined c .before .loop-test .taken)
+
 queue-lowest-requires : tie.Need-queue-lowest-requires Inv-loop μ-loop
 queue-lowest-requires c κs =
     let p = c .before .before .before .before .before .before .before .before .pre in
@@ -121,17 +142,17 @@ peel-above-requires c κs =
     let j = c .before .before .before .before in
     let p = start (turn j) .pre in
     let h = here j _ _ (known (turn j)) in
-    turn-peels _ _ _ _ _ _ _ _ _ _ (h .0) _ _ _ (p .steps .stepped) (h .1) (small (turn j) .3)
+    turn-peels _ _ _ _ _ _ _ _ _ _ (h .0) _ _ _ (p .steps .stepped) (h .1) (room (turn j))
 
 loop-again : tie.Need-loop-again Inv-loop μ-loop
 loop-again c =
-    let j = c .before .before .before .before .before .before .before .before .before in
+    let peeled = c .before .before .before .before .peel-above in
+    let j = joined c in
     let t = turn j in (
-      omega arith,
-      omega arith,
+      peeled .kept .1 .1 .1 .0 ∙ t .loop .inv .0,
+      peeled .kept .1 .1 .1 .1 .0 ∙ t .loop .inv .1,
       λ below s before e long. let h = here j below before (t .loop .inv .2 below s before e long) in
-          turn-next _ _ _ _ _ _ _ _ _ _ (h .0) _ _ _ (s .stepped) (h .1) (small t .3) _ _ _ (h .0 .few)
-          (c .before .before .before .before .peel-above .ensures),
+          turn-next _ _ _ _ _ _ _ _ _ _ (h .0) _ _ _ (s .stepped) (h .1) (room t) _ _ _ (h .0 .few) (peeled .ensures),
     )
 
 returns : tie.Need-returns Inv-loop μ-loop
@@ -155,12 +176,11 @@ returns-2 c below s =
 pub longest-chain-spec : {M : Type 1} → statement M
 longest-chain-spec =
     tie.close
-    (tie.spec Inv-loop μ-loop queue-lowest-requires loop-holds (λ c. omega (arith, small (c .before .before)))
-    (λ c. omega (arith, small (turn c))) (λ c. omega (arith, small (turn (c .before))))
-    (λ c. omega (arith, item-low (c .before))) (λ c. omega (arith, item-low (c .before)))
-    (λ c. item-low (c .before .before) .0) peel-above-requires
-    (λ c. omega (arith, small (turn (c .before .before .before .before .before .before .before .before .before))))
-    (λ c. omega (arith, small (turn (c .before .before .before .before .before .before .before .before .before))))
-    loop-again
+    (tie.spec Inv-loop μ-loop queue-lowest-requires loop-holds add-levels
+    (λ c. scaled-fits _ _ 4 (place (c .before)) (start (turn c) .good .1 .1 .1 .1 .1 .0 .1))
+    (λ c. rw (long (turn (c .before))) (place (c .before .before)))
+    (λ c. fits-widen tt (c .slice-known4 .given (turn (c .before) .loop .done)))
+    (λ c. scaled-fits _ _ 2 (item-low (c .before) .0) (start (turn (c .before)) .good .1 .1 .0 .1))
+    (λ c. item-low (c .before .before) .0) peel-above-requires add-done loop-less loop-again
     (λ c. c .before .before .loop .inv .0) (λ c. long (c .before .before)) returns
     (λ c. c .before .before .loop .inv .0) (λ c. long (c .before .before)) returns-2)

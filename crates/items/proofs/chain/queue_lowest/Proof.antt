@@ -3,7 +3,6 @@
 use Prim.Native.Nat.{_-_, _<_}
 use native.Mathlib.Omega.{arith}
 use mathlib.Core.Path.{_≡_}
-use mathlib.Core.Logic.{⊎-elim}
 use lib.ListN.{length, getD}
 use lib.Dec.{eqb}
 use borrow.Author.Tests.{eq-eqb, ne-eqb}
@@ -35,11 +34,13 @@ known c =
 loop-again : tie.Need-loop-again Inv-loop μ-loop
 loop-again c =
     let t = c .before .before .before in
-    let l = t .before .loop in
-    ⊎-elim (λ w. rw (w .1, w .2) (collected-takes _ _ _ _ _ _ (l .inv) (t .loop-test .taken) (t .before .before .pre .0)
-    (eq-eqb _ 0 (w .0 .taken))))
-    (λ w. rw (w .1, w .2) (collected-skips _ _ _ _ _ _ (l .inv) (t .loop-test .taken) (ne-eqb _ 0 (w .0 .left))))
-    (c .if1 .came)
+    collected-takes _ _ _ _ _ _ (t .before .loop .inv) (t .loop-test .taken) (t .before .before .pre .0)
+    (eq-eqb _ 0 (c .if1 .taken))
+
+loop-again-2 : tie.Need-loop-again-2 Inv-loop μ-loop
+loop-again-2 c =
+    let t = c .before .before .before in
+    collected-skips _ _ _ _ _ _ (t .before .loop .inv) (t .loop-test .taken) (ne-eqb _ 0 (c .if1 .left))
 
 returns : tie.Need-returns Inv-loop μ-loop
 returns c = collected-all _ _ _ _ _ _ (c .loop-test .left) (c .before .loop .inv)
@@ -47,9 +48,9 @@ returns c = collected-all _ _ _ _ _ _ (c .loop-test .left) (c .before .loop .inv
 pub queue-lowest-spec : {M : Type 1} → statement M
 queue-lowest-spec =
     tie.close
-    (tie.spec Inv-loop μ-loop (λ c. collected-none _ _ _) (λ c. omega arith) (λ c. omega arith)
-    (λ c. omega (arith, known (c .before))) (λ c. omega (arith, known (c .before)))
-    (λ c. omega (arith, known (c .before .before))) (λ c. omega (arith, known (c .before .before .before)))
-    (λ c. omega (arith, known (c .before .before .before))) (λ c. omega (arith, known (c .before .before .before)))
-    (λ c. omega arith) (λ c. omega arith) loop-again
+    (tie.spec Inv-loop μ-loop (λ c. collected-none _ _ _) (λ c. omega arith) (λ c. c .before .loop-test .taken)
+    (λ c. omega arith) (λ c. omega (arith, known (c .before) .0)) (λ c. omega (arith, known (c .before) .0))
+    (λ c. known (c .before .before) .0) (λ c. omega (arith, known (c .before .before .before)))
+    (λ c. known (c .before .before .before) .1) (λ c. omega (arith, known (c .before .before .before)))
+    (λ c. omega arith) loop-again (λ c. omega arith) loop-again-2
     (λ c. collected-long _ _ _ _ _ _ (c .before .before .pre .0) (c .before .loop .inv)) returns)

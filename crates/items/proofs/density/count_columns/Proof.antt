@@ -60,9 +60,8 @@ pub count-columns-spec : {M : Type 1} → statement M
 count-columns-spec =
     tie.close
     (tie.spec Inv-loop μ-loop loop-holds (λ c. search needs) (λ c. search needs)
-    (λ c. omega (arith, places (c .before))) (λ c. omega (arith, places (c .before)))
-    (λ c. places (c .before .before) .0) (λ c. omega (arith, places (c .before .before)))
-    (λ c. omega (arith, places (c .before .before))) (λ c. places (c .before .before .before) .1)
-    (λ c. omega (arith, places (c .before .before .before))) (λ c. omega (arith, places (c .before .before .before)))
-    (λ c. places (c .before .before .before) .1) (λ c. omega arith) (λ c. omega arith) loop-again (λ c. search needs)
-    returns)
+    (λ c. omega (arith, places (c .before) .0)) (λ c. omega (arith, places (c .before) .0))
+    (λ c. places (c .before .before) .0) (λ c. omega (arith, places (c .before .before) .1))
+    (λ c. omega (arith, places (c .before .before) .1)) (λ c. places (c .before .before .before) .1)
+    (λ c. omega (arith, places (c .before .before .before) .2)) (λ c. places (c .before .before .before) .1)
+    (λ c. omega arith) (λ c. omega arith) loop-again (λ c. c .before .loop .inv .1) returns)

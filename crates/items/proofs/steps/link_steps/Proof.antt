@@ -1,15 +1,15 @@
 -- `items::steps::link_steps` meets its contract. The loop's invariant is `LinkedPast`: the steps of the places behind i
--- are linked and counted. i falls. A turn is `one-step` or `no-step`, and `linked-all` closes the return.
-use Prim.Native.Nat.{ℕ, suc, _+_, _-_, _≤_, _<_}
-use native.Mathlib.Numerals.{add-one}
-use native.Mathlib.Omega.{arith}
-use mathlib.Core.Path.{_≡_}
-use mathlib.Core.List.{List}
+-- are linked and counted. i falls. A turn is `step-taken` or `step-left`, and `step-none` closes the return.
+use Prim.Native.Nat.{_-_, _*_}
 use lib.ListN.{length, getD}
+use mir.Syntax.{w64}
+use mir.Val.{Fits}
+use mir.Facts.{fits-widen}
+use borrow.Author.Needs.{scaled-fits, fits-under}
 use Rattle.lists.specs.Lists.{at}
-use Rattle.lists.specs.Ends.{at-pred}
 use Rattle.items.specs.Steps.{isStep}
-use Rattle.items.specs.LinkLaws.{LinkedPast, linked-start, few-counted, one-step, no-step, linked-all}
+use Rattle.items.specs.LinkLaws.{LinkedPast, linked-start, StepPlace, step-place, step-taken, step-left}
+use Rattle.items.specs.LinkLaws.{step-none}
 use Rattle.items.proofs.steps.link_steps.Statement.{statement}
 use Rattle.items.proofs.steps.link_steps.Tie as tie
 
@@ -23,96 +23,59 @@ abbrev μ-loop : tie.MeasureT-loop
 abbrev At : Type 0
 At = tie.In-loop Inv-loop μ-loop
 
-abbrev us : At → List ℕ
-us t = t .before .before .args .upper .now
-
-abbrev ls : At → List ℕ
-ls t = t .before .before .args .lower .now
-
--- the place of a turn is suc i
-abbrev i : At → ℕ
-i t = t .before .loop .i - 1
-
-place : (t : At) → t .before .loop .i ≡ suc (i t)
-place t = omega arith
+abbrev start : At → tie.Start Inv-loop μ-loop
+start t = t .before .before
 
 -- what is known of the place of a turn
-record Known (t : At) : Type 0 where
-  inside : suc (i t) ≤ length (us t)
-  even : length (ls t) ≡ length (us t)
-  few : length (us t) < 65536
-  next : suc (i t) < length (t .before .loop .next)
-  upper : getD (us t) (i t) 0 < length (t .before .loop .under)
-  lower : getD (ls t) (i t) 0 < length (t .before .loop .head)
-  count : getD (t .before .loop .under) (getD (us t) (i t) 0) 0 + suc (i t)
-      ≤ length (us t)
+known : (t : At) → let a = start t .args in let l = t .before .loop in
+    StepPlace (a .upper .now) (a .lower .now) (a .head .now) (a .next .now) (a .under .now) (l .head) (l .next)
+    (l .under) (l .i)
+known t = step-place (start t .pre) (t .before .loop .inv) (t .loop-test .taken)
 
-known : (t : At) → Known t
-known t =
-    let p = t .before .before .pre in
-    let h = t .before .loop .inv in
-    let positive : 0 < t .before .loop .i = omega arith in
-    let past = h .inside in
-    let room = p .room in
-    let long = h .nextLong in
-    record {
-      inside = omega (arith, place t);
-      even = p .even;
-      few = p .few;
-      next = omega (arith, place t);
-      upper = let u = p .upper (t .before .loop .i) in let e = at-pred (us t) (t .before .loop .i) positive in
-          let l = h .underLong in omega arith;
-      lower = let u = p .lower (t .before .loop .i) in let e = at-pred (ls t) (t .before .loop .i) positive in
-          let l = h .headLong in omega arith;
-      count = few-counted _ _ _ _ _ _ _ _ _ (rw (place t) at h) _;
-    }
+-- by what an index into a table is scaled, it fits
+up : (t : At) → Fits w64 (getD (start t .args .upper .now) (t .before .loop .i - 1) 0 * 2)
+up t = scaled-fits _ _ 2 (known t .upper) (start t .good .1 .1 .1 .1 .0 .1)
+
+down : (t : At) → Fits w64 (getD (start t .args .lower .now) (t .before .loop .i - 1) 0 * 2)
+down t = scaled-fits _ _ 2 (known t .lower) (start t .good .1 .1 .0 .1)
+
+row : (t : At) → Fits w64 ((t .before .loop .i - 1) * 4)
+row t = scaled-fits _ _ 4 (known t .inside) (start t .good .0 .1)
 
 loop-holds : tie.Need-loop-holds Inv-loop μ-loop
 loop-holds c = linked-start _ _ _ _ _ (c .pre)
-
-sub-i : tie.Need-sub-i Inv-loop μ-loop
-sub-i c = omega arith
 
 loop-again : tie.Need-loop-again Inv-loop μ-loop
 unfolding isStep at
 loop-again c =
     let t = c .before .before .before .before .before in
-    let k = known t in
-    let h = t .before .loop .inv in
-    rw (add-one (i t)) (one-step _ _ _ _ _ _ _ _ _ (rw (place t) at h)
-    (c .before .before .if1 .taken) (omega (arith, k .upper, h .underLong)) (omega (arith, k .lower, h .headLong))
-    (omega (arith, k .next, h .nextLong)))
+    step-taken (start t .pre) (t .before .loop .inv) (t .loop-test .taken) (c .before .before .if1 .taken)
 
 loop-again-2 : tie.Need-loop-again-2 Inv-loop μ-loop
 unfolding isStep at
 loop-again-2 c =
     let t = c .before .before .before in
-    no-step _ _ _ _ _ _ _ _ _ (rw (place t) at (t .before .loop .inv)) (c .if1 .left)
-
-returns : tie.Need-returns Inv-loop μ-loop
-returns c = linked-all _ _ _ _ _ _ _ _ (let z : c .before .loop .i ≡ 0 = omega arith in rw z at (c .before .loop .inv))
+    step-left (start t .pre) (t .before .loop .inv) (t .loop-test .taken) (c .if1 .left)
 
 pub link-steps-spec : {M : Type 1} → statement M
 link-steps-spec =
     tie.close
-    (tie.spec Inv-loop μ-loop loop-holds sub-i (λ c. omega (arith, known c)) (λ c. omega (arith, known (c .before)))
-    (λ c. omega (arith, known (c .before))) (λ c. omega (arith, known (c .before .before)))
-    (λ c. omega (arith, known (c .before .before .before))) (λ c. omega (arith, known (c .before .before .before)))
-    (λ c. omega (arith, known (c .before .before .before .before)))
-    (λ c. omega (arith, known (c .before .before .before .before)))
-    (λ c. omega (arith, known (c .before .before .before .before)))
-    (λ c. omega (arith, known (c .before .before .before .before)))
-    (λ c. omega (arith, known (c .before .before .before .before)))
-    (λ c. omega (arith, known (c .before .before .before .before)))
-    (λ c. omega (arith, known (c .before .before .before .before)))
-    (λ c. omega (arith, known (c .before .before .before .before)))
-    (λ c. omega (arith, known (c .before .before .before .before)))
-    (λ c. omega (arith, known (c .before .before .before .before)))
-    (λ c. omega (arith, known (c .before .before .before .before)))
-    (λ c. omega (arith, known (c .before .before .before .before .before)))
-    (λ c. omega (arith, known (c .before .before .before .before .before)))
-    (λ c. omega (arith, known (c .before .before .before .before .before)))
-    (λ c. omega (arith, known (c .before .before .before .before .before)))
-    (λ c. omega (arith, known (c .before .before .before .before .before))) (λ c. omega arith) loop-again
-    (λ c. omega arith) loop-again-2 (λ c. c .before .loop .inv .headLong) (λ c. c .before .loop .inv .nextLong)
-    (λ c. c .before .loop .inv .underLong) returns)
+    (tie.spec Inv-loop μ-loop loop-holds (λ c. c .loop-test .taken) row (λ c. known (c .before) .inside)
+    (λ c. fits-widen tt (c .shared-slice-known .given (c .before .before .loop .i - 1))) (λ c. row (c .before))
+    (λ c. known (c .before .before) .even)
+    (λ c. fits-widen tt (c .shared-slice-known2 .given (c .before .before .before .loop .i - 1)))
+    (λ c. down (c .before .before .before))
+    (λ c. known (c .before .before .before .before) .lowerNow)
+    (λ c. let t = c .before .before .before .before in
+    scaled-fits _ _ 2 (known t .linked) (start t .good .1 .1 .1 .0 .1))
+    (λ c. known (c .before .before .before .before) .linkedNow)
+    (λ c. fits-under _ _ 65536 (known (c .before .before .before .before) .few) tt)
+    (λ c. down (c .before .before .before .before))
+    (λ c. known (c .before .before .before .before) .lowerNow)
+    (λ c. up (c .before .before .before .before))
+    (λ c. known (c .before .before .before .before .before) .upperNow)
+    (λ c. fits-under _ _ 65536 (known (c .before .before .before .before .before) .count) tt)
+    (λ c. known (c .before .before .before .before .before) .upperNow)
+    (λ c. known (c .before .before .before .before .before) .falls) loop-again
+    (λ c. known (c .before .before .before) .falls) loop-again-2 (λ c. c .before .loop .inv .headLong) (λ c. c .before .loop .inv .nextLong)
+    (λ c. c .before .loop .inv .underLong) (λ c. step-none (c .before .before .pre) (c .before .loop .inv) (c .loop-test .left)))

@@ -1,8 +1,12 @@
 -- `items::steps::lower_above` meets its contract. The loop's invariant is `LowersOn`: the counts lowered for the places
 -- left are those lowered for all. The links rise, so what remains of the table falls. A turn is `lowers-next`.
-use Prim.Native.Nat.{_-_, _≤_, _<_}
+use Prim.Native.Nat.{_-_, _*_, _≤_, _<_}
 use native.Mathlib.Omega.{arith}
 use lib.ListN.{length, getD}
+use mir.Syntax.{w64}
+use mir.Val.{Fits}
+use mir.Facts.{fits-widen}
+use borrow.Author.Needs.{scaled-fits}
 use Rattle.items.specs.Chains.{remaining}
 use Rattle.items.specs.StepLaws.{LowersOn, lowers-start, lowers-end, here, lowers-next, lowers-falls}
 use Rattle.items.proofs.steps.lower_above.Statement.{statement}
@@ -18,51 +22,17 @@ abbrev μ-loop : tie.MeasureT-loop
 known : (c : tie.In-loop Inv-loop μ-loop)
     → let a = getD (c .before .before .args .upper .now) (c .before .loop .c - 1) 0 in
     (0 < c .before .loop .c) × (c .before .loop .c < length (c .before .before .args .next .now))
-    × (c .before .loop .c ≤ length (c .before .before .args .upper .now))
+    × (c .before .loop .c - 1 < length (c .before .before .args .upper .now))
     × (a < length (c .before .loop .under)) × (1 ≤ getD (c .before .loop .under) a 0)
 known c = here _ _ _ _ _ _ (c .before .loop .inv) (c .loop-test .taken)
 
+-- its upper item, scaled, fits
+upper : (c : tie.In-loop Inv-loop μ-loop)
+    → Fits w64 (getD (c .before .before .args .upper .now) (c .before .loop .c - 1) 0 * 2)
+upper c = scaled-fits _ _ 2 (rw (c .before .loop .inv .long) at (known c .3)) (c .before .before .good .1 .1 .1 .0 .1)
+
 loop-holds : tie.Need-loop-holds Inv-loop μ-loop
 loop-holds c = lowers-start _ _ _ _ (c .pre)
-
-cast-a : tie.Need-cast-a Inv-loop μ-loop
-cast-a c = omega (arith, known c)
-
-sub-a : tie.Need-sub-a Inv-loop μ-loop
-sub-a c = omega (arith, known c)
-
-mul-a : tie.Need-mul-a Inv-loop μ-loop
-mul-a c = omega (arith, known c)
-
-shared-slice-read-a : tie.Need-shared-slice-read-a Inv-loop μ-loop
-shared-slice-read-a c = omega (arith, known (c .before))
-
-cast-a-2 : tie.Need-cast-a-2 Inv-loop μ-loop
-cast-a-2 c = omega (arith, known (c .before))
-
-mul-under : tie.Need-mul-under Inv-loop μ-loop
-mul-under c = omega (arith, known (c .before))
-
-slice-read-under : tie.Need-slice-read-under Inv-loop μ-loop
-slice-read-under c = omega (arith, known (c .before .before))
-
-sub-under : tie.Need-sub-under Inv-loop μ-loop
-sub-under c = omega (arith, known (c .before .before))
-
-mul-under-2 : tie.Need-mul-under-2 Inv-loop μ-loop
-mul-under-2 c = omega (arith, known (c .before .before))
-
-slice-write-under : tie.Need-slice-write-under Inv-loop μ-loop
-slice-write-under c = omega (arith, known (c .before .before))
-
-cast-c : tie.Need-cast-c Inv-loop μ-loop
-cast-c c = omega (arith, known (c .before .before))
-
-mul-c : tie.Need-mul-c Inv-loop μ-loop
-mul-c c = omega (arith, known (c .before .before))
-
-shared-slice-read-c : tie.Need-shared-slice-read-c Inv-loop μ-loop
-shared-slice-read-c c = omega (arith, known (c .before .before .before))
 
 loop-less : tie.Need-loop-less Inv-loop μ-loop
 loop-less c =
@@ -72,14 +42,17 @@ loop-again : tie.Need-loop-again Inv-loop μ-loop
 loop-again c =
     let t = c .before .before .before in lowers-next _ _ _ _ _ _ (t .before .loop .inv) (t .loop-test .taken)
 
-same-length : tie.Need-same-length Inv-loop μ-loop
-same-length c = c .before .loop .inv .long
-
 returns : tie.Need-returns Inv-loop μ-loop
 returns c = lowers-end _ _ _ _ _ _ (c .before .loop .inv) (c .loop-test .left)
 
 pub lower-above-spec : {M : Type 1} → statement M
 lower-above-spec =
     tie.close
-    (tie.spec Inv-loop μ-loop loop-holds cast-a sub-a mul-a shared-slice-read-a cast-a-2 mul-under slice-read-under
-    sub-under mul-under-2 slice-write-under cast-c mul-c shared-slice-read-c loop-less loop-again same-length returns)
+    (tie.spec Inv-loop μ-loop loop-holds (λ c. known c .0)
+    (λ c. scaled-fits _ _ 4 (known c .2) (c .before .before .good .0 .1)) (λ c. known (c .before) .2)
+    (λ c. fits-widen tt (c .shared-slice-known .given (c .before .before .loop .c - 1))) (λ c. upper (c .before))
+    (λ c. known (c .before .before) .3) (λ c. known (c .before .before) .4) (λ c. known (c .before .before) .3)
+    (λ c. let t = c .before .before in scaled-fits _ _ 2 (known t .1) (t .before .before .good .1 .0 .1))
+    (λ c. known (c .before .before .before) .1)
+    (λ c. fits-widen tt (c .shared-slice-known2 .given (c .before .before .before .before .loop .c)))
+    loop-less loop-again (λ c. c .before .loop .inv .long) returns)
