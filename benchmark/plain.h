@@ -66,7 +66,11 @@ struct plain_header {
 /* 0, or the first of refusals 3 to 5 that applies to two rows of any lengths and numbers. */
 uint64_t plain_check(const uint32_t *top, size_t top_length, const uint32_t *bot, size_t bot_length);
 
-/* The rows with 0 in place of each parked pin, in the room of a copy: what bounds and the router work on. */
+/* Some pin is parked. */
+bool plain_has_parked(const struct plain_rows *rows);
+
+/* The rows with 0 in place of each parked pin, in the room of a copy: what the router works on, and bounds where some
+ * pin is parked. */
 struct plain_rows plain_leave_parked(const struct plain_rows *rows, struct plain_copy *copy);
 
 void plain_find_spans(const struct plain_rows *rows, struct plain_spans *spans);

@@ -8,7 +8,7 @@ uint64_t plain_bounds(const uint32_t *top, size_t top_length, const uint32_t *bo
         return refusal;
     struct plain_rows whole = {top, bot, top_length};
     struct plain_copy copy;
-    struct plain_rows rows = plain_leave_parked(&whole, &copy);
+    struct plain_rows rows = plain_has_parked(&whole) ? plain_leave_parked(&whole, &copy) : whole;
     struct plain_spans spans;
     plain_find_spans(&rows, &spans);
     uint32_t items[PLAIN_NETS];

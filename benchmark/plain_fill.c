@@ -10,18 +10,31 @@ static void lower_above(const struct plain_rows *rows, struct plain_steps *steps
         steps->under[rows->top[c - 1]]--;
 }
 
+/* The nets that items are parts of; an item past the end of the table is a net of its own. */
+struct parts {
+    const uint32_t *nets;
+    size_t count;
+};
+
+static inline uint32_t net_of(const struct parts *parts, uint32_t n)
+{
+    return n < parts->count ? parts->nets[n] : n;
+}
+
 /* One scan of the nets left for track k: those placed get the track, the others move to the front. Answers how many
  * are left. */
-static size_t scan_track(const struct plain_rows *rows, const struct plain_spans *spans, struct plain_steps *steps,
-                         uint32_t left[PLAIN_NETS], size_t count, uint32_t tracks[PLAIN_NETS], uint32_t k)
+static size_t scan_track(const struct plain_rows *rows, const struct plain_spans *spans, const struct parts *parts,
+                         struct plain_steps *steps, uint32_t left[PLAIN_NETS], size_t count,
+                         uint32_t tracks[PLAIN_NETS], uint32_t k)
 {
-    uint32_t end = 0;
+    uint32_t end = 0, net = 0; /* of the item placed before */
     size_t rest = 0;
     for (size_t i = 0; i < count; i++) {
-        uint32_t n = left[i];
-        if (end < spans->first[n] && steps->under[n] == 0) {
+        uint32_t n = left[i], start = spans->first[n];
+        if (steps->under[n] == 0 && (end < start || (end == start && net == net_of(parts, n)))) {
             tracks[n] = k;
             end = spans->last[n];
+            net = net_of(parts, n);
             lower_above(rows, steps, n);
         } else {
             left[rest++] = n;
@@ -50,26 +63,27 @@ static uint32_t lowest_net(const uint32_t left[PLAIN_NETS], size_t count)
     return least;
 }
 
-/* Walks down from the lowest net left until a net is met again; the ring's pairs go to the front of `ring`. Answers
- * their number. */
+/* Walks down from the lowest net left until a net is met again, and once more from there; the ring's pairs go to the
+ * front of `ring`. Answers their number. */
 static int show_ring(const struct plain_rows *rows, const uint32_t tracks[PLAIN_NETS], const uint32_t left[PLAIN_NETS],
                      size_t count, uint32_t *ring)
 {
-    uint32_t columns[PLAIN_NETS], trail[PLAIN_NETS];
-    uint32_t visits[PLAIN_NETS] = {0}; /* 1 plus a net's place in the trail */
-    uint32_t n = lowest_net(left, count), steps = 0;
+    uint32_t columns[PLAIN_NETS];
+    uint32_t visits[PLAIN_NETS] = {0}; /* 1 plus the steps to a net */
+    uint32_t n = lowest_net(left, count), mark = 1;
     lowest_drops(rows, tracks, columns);
     while (visits[n] == 0) {
-        trail[steps++] = n;
-        visits[n] = steps;
+        visits[n] = mark++;
         n = rows->bot[columns[n] - 1];
     }
-    uint32_t from = visits[n] - 1;
-    for (uint32_t i = from; i < steps; i++) {
-        *ring++ = trail[i];
-        *ring++ = columns[trail[i]];
+    uint32_t pairs = mark - visits[n];
+    for (uint32_t i = 0; i < pairs; i++) {
+        uint32_t c = columns[n];
+        *ring++ = n;
+        *ring++ = c;
+        n = rows->bot[c - 1];
     }
-    return (int)(steps - from);
+    return (int)pairs;
 }
 
 int plain_fill(const struct plain_rows *rows, const struct plain_spans *spans, uint32_t tracks[PLAIN_NETS],
@@ -77,13 +91,14 @@ int plain_fill(const struct plain_rows *rows, const struct plain_spans *spans, u
 {
     uint32_t left[PLAIN_NETS];
     struct plain_steps steps;
+    const struct parts none = {NULL, 0};
     int done = 0;
     memset(tracks, 0, PLAIN_NETS * sizeof *tracks);
     size_t count = plain_spanning(rows, spans, left);
     plain_sort(left, count, spans->first, rows->width, steps.next);
     plain_link_steps(rows, &steps);
     while (count != 0) {
-        size_t rest = scan_track(rows, spans, &steps, left, count, tracks, (uint32_t)done + 1);
+        size_t rest = scan_track(rows, spans, &none, &steps, left, count, tracks, (uint32_t)done + 1);
         if (rest == count)
             return -show_ring(rows, tracks, left, count, ring);
         count = rest;

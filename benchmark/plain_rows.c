@@ -31,6 +31,24 @@ static void count_pins(const uint32_t *row, size_t width, uint32_t counts[PLAIN_
         counts[row[i]]++;
 }
 
+/* A number of a row is counted just once. */
+static bool any_once(const uint32_t *row, size_t width, const uint32_t counts[PLAIN_NETS])
+{
+    for (size_t i = 0; i < width; i++)
+        if (counts[row[i]] == 1)
+            return true;
+    return false;
+}
+
+bool plain_has_parked(const struct plain_rows *rows)
+{
+    uint32_t counts[PLAIN_NETS] = {0};
+    count_pins(rows->top, rows->width, counts);
+    count_pins(rows->bot, rows->width, counts);
+    counts[0] = 0;
+    return any_once(rows->top, rows->width, counts) || any_once(rows->bot, rows->width, counts);
+}
+
 /* Copies a row; a net that is counted just once is parked, and its pin is left out. */
 static void copy_nets(const uint32_t *row, size_t width, const uint32_t counts[PLAIN_NETS], uint32_t *nets)
 {

@@ -22,4 +22,5 @@ pub mod BoundLaws
 pub mod NoteLaws
 pub mod ShownLaws
 pub mod RemoveLaws
+pub mod OnceLaws
 pub mod ToldLaws

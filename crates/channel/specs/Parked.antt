@@ -3,15 +3,20 @@ use Prim.Native.Nat.{ℕ, _<_}
 use mathlib.Core.Path.{_≡_}
 use mathlib.Core.List.{List}
 use mathlib.Core.Logic.{_⊎_}
+use mathlib.Core.Bool.{Bool}
 use lib.Dec.{T}
-use Rattle.lists.specs.Lists.{at, overlay}
-use Rattle.channel.specs.Channel.{Channel, isParked, isNet, withoutParked}
+use Rattle.lists.specs.Lists.{at, anyOf, overlay}
+use Rattle.channel.specs.Channel.{Channel, positions, isParked, isNet, withoutParked}
 use Rattle.channel.specs.Answers.{Escapes}
 
 -- in each column with pins of two different numbers, one of them is parked
 abbrev pub ParkedBeside : Channel → Type 0
 ParkedBeside ch = (c : ℕ) → 0 < at (ch .top) c → 0 < at (ch .bot) c → (at (ch .top) c ≡ at (ch .bot) c → ⊥)
     → T (isParked ch (at (ch .top) c)) ⊎ T (isParked ch (at (ch .bot) c))
+
+-- some pin is parked
+unfoldable pub hasParked : Channel → Bool
+hasParked ch = anyOf (isParked ch) (positions ch)
 
 -- the channel escapes refusals 3 to 5, and every number of its rows but 0 names a net that is routed
 pub record NetsOnly (ch : Channel) : Type 0 where

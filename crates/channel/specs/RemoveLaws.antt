@@ -68,7 +68,7 @@ module _ (ch : Channel) (esc : Escapes ch) where
   abbrev pub counted : List ℕ
   counted = tally (ch .bot) (tally (ch .top) zeros)
 
-  low-member : {n : ℕ} (row : List ℕ) → ((k : ℕ) → getD row k 0 ≤ highestNet) → List·Memᴰ n row → n ≤ highestNet
+  pub low-member : {n : ℕ} (row : List ℕ) → ((k : ℕ) → getD row k 0 ≤ highestNet) → List·Memᴰ n row → n ≤ highestNet
   low-member row low m = let r = member-at m in let h = low (r .0) in let e = r .2 in omega arith
 
   -- a number of the rows is removed exactly if it is parked

@@ -1,7 +1,7 @@
 -- What the parts of the row check answer over one row, and of the removal of parked pins over a row and the counts.
 use Prim.Native.Nat.{ℕ}
 use mathlib.Core.List.{List, map}
-use mathlib.Core.Bool.{cond}
+use mathlib.Core.Bool.{Bool, cond}
 use lib.ListN.{length, getD}
 use lib.Dec.{ltb, eqb}
 use Rattle.lists.specs.Lists.{keep, headOr, upTo, at}
@@ -11,9 +11,13 @@ use Rattle.channel.specs.Channel.{highestNet}
 unfoldable pub firstHigh : List ℕ → ℕ
 firstHigh row = headOr 0 (keep (λ p. ltb highestNet (at row p)) (upTo (length row)))
 
+-- the number is counted just once
+abbrev pub once : List ℕ → ℕ → Bool
+once counts n = eqb (getD counts n 0) 1
+
 -- the number, or 0 if it is counted just once; and so for each of a row
 unfoldable pub unlessOnce : List ℕ → ℕ → ℕ
-unlessOnce counts n = cond (eqb (getD counts n 0) 1) 0 n
+unlessOnce counts n = cond (once counts n) 0 n
 
 abbrev pub netsOfRow : List ℕ → List ℕ → List ℕ
 netsOfRow counts row = map (unlessOnce counts) row

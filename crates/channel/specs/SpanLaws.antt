@@ -86,11 +86,6 @@ spans-rise ch s m =
     let r = Memᴰ·of-map (λ n. record { first = firstColumn ch n; last = lastColumn ch n }) (spanning ch) m in
     subst (λ (e : Span). e .first < e .last) (r .2) (span-strict ch (r .0) (spanning→ ch (r .0) (r .1) .1))
 
--- the numbers of columns that were made of numbers
-pub plain-typed : (xs : List ℕ) → map (λ (c : Column). c .0) (map column xs) ≡ xs
-plain-typed [] = refl
-plain-typed (x ∷ xs) = ap (λ (l : List ℕ). x ∷ l) (plain-typed xs)
-
 module _ (ch : Channel) (esc : Escapes ch) where
   -- a net's number is at most 511
   pub pin→net : (n c : ℕ) → PinIn ch n c → IsNet ch n

@@ -11,8 +11,8 @@ use refusal::Refusal;
 pub use rows::check;
 pub use spanning::list_spanning;
 pub use spans::Spans;
-pub use spans::find_spans;
-pub use spans::plain_columns;
+pub use spans::find_columns;
+pub use spans::typed_spans;
 
 // What the check of two rows answers.
 pub enum RowsAnswer {

@@ -1,13 +1,15 @@
 // The bounds of a channel: its density and its chain, of its nets with spans as items.
 ghost use mathlib.Core.Path.{_≡_};
+ghost use lib.ListN.{length};
 ghost use Rattle.channel.specs.Channel.{rows, spanning};
 ghost use Rattle.channel.specs.Density.{density};
 ghost use Rattle.channel.specs.Constraints.{chain};
-ghost use Rattle.channel.specs.Answers.{boundsOf, boundsAnswer};
+ghost use Rattle.channel.specs.Answers.{Escapes, boundsOf, boundsAnswer};
 ghost use Rattle.channel.specs.Parked.{NetsOnly};
 ghost use Rattle.channel.specs.Spans.{firsts, lasts};
 use crate::BoundsAnswer;
 use crate::RowsAnswer;
+use crate::parked::has_parked;
 use crate::parked::remove_parked;
 use crate::spanning::list_spanning;
 use crate::spans::find_columns;
@@ -33,17 +35,17 @@ fn density_of(
     items::greatest_density(items, first, last, &mut starts[..w + 1], &mut ends[..w + 1])
 }
 
-// Its chain, 0 where it is tangled.
-fn chain_of(top: &[u32], bot: &[u32], items: &[u32]) -> u32
-    requires { ⌜ NetsOnly (rows (now top) (now bot)) × (now items ≡ spanning (rows (now top) (now bot))) ⌝ }
+// Its chain, 0 where it is tangled. `queue` is room for the nets that are peeled.
+fn chain_of(top: &[u32], bot: &[u32], items: &[u32], queue: &mut [u32]) -> u32
+    requires { ⌜ NetsOnly (rows (now top) (now bot)) × (now items ≡ spanning (rows (now top) (now bot)))
+        × (length (now queue) ≡ 512) ⌝ }
     ensures { λ r. ⌜ r ≡ chain (rows (now (top .entry)) (now (bot .entry))) ⌝ }
 {
     let mut head = [0u16; NET_SLOTS];
     let mut next = [0u16; COLUMN_SLOTS];
     let mut under = [0u16; NET_SLOTS];
-    let mut queue = [0u32; NET_SLOTS];
     items::link_steps(top, bot, &mut head, &mut next, &mut under);
-    items::longest_chain(items, top, &head, &next, &mut under, &mut queue)
+    items::longest_chain(items, top, &head, &next, &mut under, queue)
 }
 
 // The density and the chain of rows that show nets only.
@@ -56,10 +58,26 @@ fn bounds_of_nets(top: &[u32], bot: &[u32]) -> BoundsAnswer
     find_columns(top, bot, &mut first, &mut last);
     let mut items = [0u32; NET_SLOTS];
     let count = list_spanning(top, bot, &first, &last, &mut items);
-    BoundsAnswer::Bounds {
-        density: density_of(top, bot, &items[..count], &first, &last),
-        chain: chain_of(top, bot, &items[..count]),
+    let listed = &items[..count];
+    let density = density_of(top, bot, listed, &first, &last);
+    // the first columns are no longer wanted, and their table is lent as room
+    let chain = chain_of(top, bot, listed, &mut first);
+    BoundsAnswer::Bounds { density, chain }
+}
+
+// The density and the chain of a channel that escapes refusals 3 to 5. Rows without parked pins are taken as they are.
+fn bounds_of_checked(top: &[u32], bot: &[u32]) -> BoundsAnswer
+    requires { ⌜ Escapes (rows (now top) (now bot)) ⌝ }
+    ensures { λ r. ⌜ r ≡ boundsOf (rows (now (top .entry)) (now (bot .entry))) ⌝ }
+{
+    if !has_parked(top, bot) {
+        return bounds_of_nets(top, bot);
     }
+    let w = top.len();
+    let mut upper = [0u32; WIDEST];
+    let mut lower = [0u32; WIDEST];
+    remove_parked(top, bot, &mut upper, &mut lower);
+    bounds_of_nets(&upper[..w], &lower[..w])
 }
 
 // The density and the chain of rows of any lengths and numbers, or the first of refusals 3 to 5 that applies.
@@ -68,12 +86,6 @@ pub fn bounds(top: &[u32], bot: &[u32]) -> BoundsAnswer
 {
     match crate::check(top, bot) {
         RowsAnswer::Refused(refusal) => BoundsAnswer::Refused(refusal),
-        RowsAnswer::Accepted => {
-            let w = top.len();
-            let mut upper = [0u32; WIDEST];
-            let mut lower = [0u32; WIDEST];
-            remove_parked(top, bot, &mut upper, &mut lower);
-            bounds_of_nets(&upper[..w], &lower[..w])
-        }
+        RowsAnswer::Accepted => bounds_of_checked(top, bot),
     }
 }

@@ -2,12 +2,12 @@
 ghost use mathlib.Core.Path.{_≡_};
 ghost use Prim.Native.Nat.{ℕ, _≤_, _<_};
 ghost use lib.ListN.{length, getD};
-ghost use Rattle.lists.specs.Lists.{overlay};
+ghost use Rattle.lists.specs.Lists.{overlay, anyOf};
 ghost use Rattle.lists.specs.Counts.{tally};
 ghost use Rattle.channel.specs.Channel.{rows, widest};
 ghost use Rattle.channel.specs.Answers.{Escapes};
-ghost use Rattle.channel.specs.Rows.{firstHigh, netsOfRow};
-ghost use Rattle.channel.specs.Parked.{ParkedRemoved};
+ghost use Rattle.channel.specs.Rows.{firstHigh, once, netsOfRow};
+ghost use Rattle.channel.specs.Parked.{hasParked, ParkedRemoved};
 use grid::NET_SLOTS;
 use grid::WIDEST;
 
@@ -20,9 +20,38 @@ fn count_pins(row: &[u32], counts: &mut [u32; NET_SLOTS])
     let mut i: usize = 0;
     while i < row.len() {
         let n = row[i] as usize;
-        counts[n] = counts[n] + 1;
+        counts[n] += 1;
         i += 1;
     }
+}
+
+// Some number of a row is counted just once.
+fn any_once(row: &[u32], counts: &[u32; NET_SLOTS]) -> bool
+    requires { ⌜ firstHigh (now row) ≡ 0 ⌝ }
+    ensures { λ r. ⌜ r ≡ anyOf (once (now (counts .entry))) (now (row .entry)) ⌝ }
+{
+    let mut i: usize = 0;
+    while i < row.len() {
+        let n = row[i] as usize;
+        i += 1;
+        if counts[n] == 1 {
+            return true;
+        }
+    }
+    false
+}
+
+// Some pin of a channel that escapes refusals 3 to 5 is parked.
+pub fn has_parked(top: &[u32], bot: &[u32]) -> bool
+    requires { ⌜ Escapes (rows (now top) (now bot)) ⌝ }
+    ensures { λ r. ⌜ r ≡ hasParked (rows (now (top .entry)) (now (bot .entry))) ⌝ }
+{
+    let mut counts = [0u32; NET_SLOTS];
+    count_pins(top, &mut counts);
+    count_pins(bot, &mut counts);
+    // a place without a pin is not parked
+    counts[0] = 0;
+    any_once(top, &counts) || any_once(bot, &counts)
 }
 
 // Puts a row at the front of `kept`, with 0 for each number that is counted just once.
@@ -41,7 +70,7 @@ fn keep_nets(row: &[u32], counts: &[u32; NET_SLOTS], kept: &mut [u32; WIDEST])
 }
 
 // Puts the rows of a channel that escapes refusals 3 to 5 at the front of `upper` and `lower`, without its parked pins.
-// Here alone parked numbers are told from nets.
+// Here and in `has_parked` alone parked numbers are told from nets.
 pub fn remove_parked(top: &[u32], bot: &[u32], upper: &mut [u32; WIDEST], lower: &mut [u32; WIDEST])
     requires { ⌜ Escapes (rows (now top) (now bot)) × (length (now upper) ≡ widest)
         × (length (now lower) ≡ widest) ⌝ }

@@ -1,5 +1,6 @@
 // The nets with spans, as a list in rising number.
 ghost use mathlib.Core.Path.{_≡_};
+ghost use Prim.Native.Nat.{max};
 ghost use lib.ListN.{length};
 ghost use Rattle.lists.specs.Lists.{greatest, overlay};
 ghost use Rattle.channel.specs.Channel.{rows, spanning};
@@ -7,17 +8,17 @@ ghost use Rattle.channel.specs.Parked.{NetsOnly};
 ghost use Rattle.channel.specs.Spans.{firsts, lasts};
 use grid::NET_SLOTS;
 
-// The greatest number of a row, 0 if there is none.
-fn highest_number(row: &[u32]) -> u32
-    ensures { λ r. ⌜ r ≡ greatest (now (row .entry)) ⌝ }
+// The greatest of `highest` and the numbers of a row.
+fn highest_number(row: &[u32], mut highest: u32) -> u32
+    ensures { λ r. ⌜ r ≡ max highest (greatest (now (row .entry))) ⌝ }
 {
-    let mut highest: u32 = 0;
     let mut i: usize = 0;
     while i < row.len() {
-        if highest < row[i] {
-            highest = row[i];
-        }
+        let n = row[i];
         i += 1;
+        if highest < n {
+            highest = n;
+        }
     }
     highest
 }
@@ -38,15 +39,14 @@ pub fn list_spanning(
         × (now (items .exit)
         ≡ overlay (spanning (rows (now (top .entry)) (now (bot .entry)))) (now (items .entry))) ⌝ }
 {
-    let upper = highest_number(top);
-    let lower = highest_number(bot);
-    let highest = if upper < lower { lower } else { upper };
+    let upper = highest_number(top, 0);
+    let highest = highest_number(bot, upper) as usize;
     let mut count: usize = 0;
-    let mut n: u32 = 0;
+    let mut n: usize = 0;
     while n < highest {
         n += 1;
-        if first[n as usize] < last[n as usize] {
-            items[count] = n;
+        if first[n] < last[n] {
+            items[count] = n as u32;
             count += 1;
         }
     }

@@ -5,7 +5,7 @@ ghost use Prim.Native.Nat.{_≤_};
 ghost use lib.ListN.{set, replicate};
 ghost use Rattle.grid.specs.Pieces.{column};
 ghost use Rattle.channel.specs.Channel.{highestNet, rows};
-ghost use Rattle.channel.specs.Spans.{SpansFound, firsts, lasts, firstNoted};
+ghost use Rattle.channel.specs.Spans.{firsts, lasts, firstNoted};
 ghost use Rattle.channel.specs.Parked.{NetsOnly};
 use grid::Column;
 use grid::NET_SLOTS;
@@ -15,20 +15,6 @@ use grid::Net;
 pub struct Spans {
     pub first: [Column; NET_SLOTS],
     pub last: [Column; NET_SLOTS],
-}
-
-// The numbers of columns, for a loop that is lent plain numbers.
-pub fn plain_columns(columns: [Column; NET_SLOTS]) -> [u32; NET_SLOTS]
-    ensures { λ r. ⌜ r ≡ map (λ c. c .0) columns ⌝ }
-{
-    let mut plain = [0u32; NET_SLOTS];
-    let mut i: usize = 0;
-    while i < NET_SLOTS {
-        let c = columns[i];
-        plain[i] = c.0;
-        i += 1;
-    }
-    plain
 }
 
 // Numbers as columns.
@@ -83,14 +69,10 @@ pub fn find_columns(
     last[0] = 0;
 }
 
-// The spans of a channel whose rows show nets only.
-pub fn find_spans(top: &[u32], bot: &[u32]) -> Spans
-    requires { ⌜ NetsOnly (rows (now top) (now bot)) ⌝ }
-    ensures { λ r. ⌜ SpansFound (rows (now (top .entry)) (now (bot .entry))) r ⌝ }
+// The spans of a channel, from the columns found in its rows.
+pub fn typed_spans(first: [u32; NET_SLOTS], last: [u32; NET_SLOTS]) -> Spans
+    ensures { λ r. ⌜ (r .first ≡ map column first) × (r .last ≡ map column last) ⌝ }
 {
-    let mut first = [0u32; NET_SLOTS];
-    let mut last = [0u32; NET_SLOTS];
-    find_columns(top, bot, &mut first, &mut last);
     Spans {
         first: typed_columns(first),
         last: typed_columns(last),

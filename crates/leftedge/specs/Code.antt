@@ -9,7 +9,7 @@ use Rattle.grid.specs.declared.Track.{Track}
 use Rattle.grid.specs.Pieces.{track}
 use Rattle.channel.specs.Channel.{Channel, spanning}
 use Rattle.channel.specs.Parked.{NetsOnly}
-use Rattle.channel.specs.Spans.{each512, firsts, lasts}
+use Rattle.channel.specs.Spans.{each512, firsts, lasts, SpansFound}
 use Rattle.leftedge.specs.declared.Outcome.{Outcome}
 use Rattle.leftedge.specs.declared.Outcome.the-variants.{Placed, Stuck}
 use Rattle.leftedge.specs.declared.Filled.{Filled}
@@ -35,9 +35,10 @@ tracksBy (filled t ps) = map track (each512 (trackOf ps))
 tracksBy (stuck left) = replicate 512 (track 0)
 
 -- What `fill_tracks` answers, and what the ring buffer then holds. Rules out: a fill that puts all nets on its first
--- track (tracks); a ring begun at the highest unplaced net (ring).
+-- track (tracks); first and last columns exchanged (spans); a ring begun at the highest unplaced net (held).
 pub record FillDone (ch : Channel) (ring : List ℕ) (r : Filled) (ring′ : List ℕ) : Type 0 where
   pub outcome : r .outcome ≡ outcomeOf ch (fill ch)
+  pub spans : SpansFound ch (r .spans)
   pub tracks : r .tracks ≡ tracksBy (fill ch)
   pub held : ring′ ≡ ringHeld ch (fill ch) ring
 

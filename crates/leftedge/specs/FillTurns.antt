@@ -49,8 +49,8 @@ pub record Underway (it : Items) (under left tracks : List ℕ) (rest done : ℕ
   pub settled : Settled it done ps (take rest left)
   pub held : Held it ps under tracks
 
-module _ {it : Items} {first last us head next under₀ left₀ : List ℕ} {count : ℕ} {tracks₀ : List ℕ}
-    (b : FillBegins it first last us head next under₀ left₀ count tracks₀) where
+module _ {it : Items} {first last nets us head next under₀ left₀ : List ℕ} {count : ℕ} {tracks₀ : List ℕ}
+    (b : FillBegins it first last nets us head next under₀ left₀ count tracks₀) where
   pub starts-empty : Underway it under₀ left₀ tracks₀ count 0
   unfolding fillItems
   starts-empty =
@@ -70,7 +70,7 @@ module _ {it : Items} {first last us head next under₀ left₀ : List ℕ} {cou
     pub few : done + rest < 4294967296
     few = let c = u .settled .count in let e = u .counted in omega arith
 
-    pub scan-begins : ScanBegins it (u .ps) first last us head next under left rest tracks
+    pub scan-begins : ScanBegins it (u .ps) first last nets us head next under left rest tracks
     scan-begins =
         record {
           tabled = b .tabled;
@@ -94,7 +94,7 @@ module _ {it : Items} {first last us head next under₀ left₀ : List ℕ} {cou
 
     -- after the scan of the next track
     module _ {r : ℕ} {under′ left′ tracks′ : List ℕ}
-        (ensures : (ps : List Place) → ScanBegins it ps first last us head next under left rest tracks
+        (ensures : (ps : List Place) → ScanBegins it ps first last nets us head next under left rest tracks
         → ScanDone it (scan it (done + 1) none ps ls) r under′ left′ tracks′) (some-left : rest ≡ 0 → ⊥) where
       abbrev now : Scan
       now = after it done (u .ps) ls

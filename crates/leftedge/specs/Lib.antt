@@ -12,6 +12,7 @@ pub mod SpanFill
 pub mod NetLaws
 pub mod NetFill
 pub mod Tables
+pub mod FollowLaws
 pub mod ScanTurns
 pub mod FillTurns
 pub mod Code

@@ -2,11 +2,10 @@
 -- leaves is what the fill of the channel answers.
 use Prim.Native.Nat.{ℕ, _<_}
 use native.Mathlib.Omega.{arith}
-use mathlib.Core.Path.{_≡_, refl, sym, _∙_, ap, ap₂, subst}
+use mathlib.Core.Path.{_≡_, refl, sym, _∙_, ap, subst}
 use mathlib.Core.List.{List, [], map, List·Memᴰ}
 use mathlib.Core.Logic.{_↔_}
 use lib.ListN.{length, getD, take, replicate, length-take, length-replicate}
-use lib.Dec.{ltb}
 use Rattle.lists.specs.Lists.{anyOf, overlay}
 use Rattle.lists.specs.Counts.{getD-zeros}
 use Rattle.lists.specs.Arrays.{length-map-from, getD-numbered, numbered}
@@ -16,6 +15,7 @@ use Rattle.items.specs.StepLaws.{waiting-none}
 use Rattle.channel.specs.Channel.{Channel, firstColumn, lastColumn, spanning}
 use Rattle.channel.specs.Answers.{Escapes}
 use Rattle.channel.specs.Parked.{NetsOnly}
+use Rattle.channel.specs.Spans.{SpansFound}
 use Rattle.channel.specs.SpanLaws.{spanning-small}
 use Rattle.channel.specs.StepsLaws.{nets-stepped}
 use Rattle.leftedge.specs.declared.tracks.FillEnd.{FillEnd}
@@ -29,6 +29,7 @@ use Rattle.leftedge.specs.Nets.{fillOrder, netItems, fill}
 use Rattle.leftedge.specs.NetLaws.{nets-orderly, order→spanning, spanning→order, starts-inside, order-length}
 use Rattle.leftedge.specs.NetFill.{nets-stuck}
 use Rattle.leftedge.specs.Tables.{FillBegins, endOf, FillEnds}
+use Rattle.leftedge.specs.FollowLaws.{own-net}
 use Rattle.leftedge.specs.Code.{outcomeOf, ringHeld, tracksBy, FillDone, NetsBegin, RingShown, WalkFrom}
 
 module _ {ch : Channel} {first last left tracks : List ℕ} {count : ℕ}
@@ -37,7 +38,7 @@ module _ {ch : Channel} {first last left tracks : List ℕ} {count : ℕ}
   esc = b .only .escapes
 
   pub nets-begin : {head next under : List ℕ} → StepsLinked (ch .top) (ch .bot) head next under → length head ≡ 512
-      → length under ≡ 512 → FillBegins (netItems ch) first last (ch .top) head next under left count tracks
+      → length under ≡ 512 → FillBegins (netItems ch) first last [] (ch .top) head next under left count tracks
   unfolding netItems
   nets-begin {head} {next} {under} l h u =
       let steps = nets-stepped (b .only) (fillOrder ch) head next under l (order→spanning ch)
@@ -49,7 +50,7 @@ module _ {ch : Channel} {first last left tracks : List ℕ} {count : ℕ}
         orderly = nets-orderly ch esc;
         tabled = record {
           stepped = steps .stepped;
-          fits = λ m n k j. ap₂ ltb (sym (last-of m (low m k))) (sym (first-of n (low n j)));
+          fits = λ m n k j apart. sym (rw (last-of m (low m k), first-of n (low n j)) (own-net m n _ _ apart));
           starts = λ n m. let e = first-of n (low n m) in
               let s = starts-inside ch (esc .even) n (order→spanning ch n m) in omega arith;
           number = λ n m. let k = low n m in (
@@ -99,13 +100,14 @@ end-stuck (stuck ls) n e = let same : n ≡ length ls = cc in (ls, same, refl)
 -- every net is placed
 pub placed-done : {ch : Channel} {end : FillEnd} {left tracks : List ℕ} {t : ℕ} {ring ring′ : List ℕ} {r : Filled}
     → FillEnds (netItems ch) (fill ch) end left tracks → end ≡ ends.Placed t → length tracks ≡ 512 → ring′ ≡ ring
-    → r .outcome ≡ Placed t → r .tracks ≡ map track tracks → FillDone ch ring r ring′
+    → r .outcome ≡ Placed t → SpansFound ch (r .spans) → r .tracks ≡ map track tracks → FillDone ch ring r ring′
 unfolding outcomeOf ringHeld tracksBy
-placed-done {ch} {tracks = tracks} {t = t} e is long untouched outcome held =
+placed-done {ch} {tracks = tracks} {t = t} e is long untouched outcome spans held =
     let f = end-placed (fill ch) t (sym is ∙ e .end) in
     let placed = numbered (trackOf (f .0)) 512 tracks long (λ n k. e .placed t (f .0) (f .1) n (omega arith)) in
     record {
       outcome = rw (f .1) outcome;
+      spans = spans;
       tracks = rw (f .1) (held ∙ ap (map track) placed);
       held = rw (f .1) untouched;
     }
@@ -133,12 +135,13 @@ module _ {ch : Channel} (only : NetsOnly ch) {end : FillEnd} {left tracks : List
       }
 
   pub stuck-done : {ring before ring′ : List ℕ} {r : Filled} {pairs : ℕ} → before ≡ ring
-      → RingShown ch (take n left) before pairs ring′ → r .outcome ≡ Stuck pairs → r .tracks ≡ replicate 512 (track 0)
-      → FillDone ch ring r ring′
+      → RingShown ch (take n left) before pairs ring′ → r .outcome ≡ Stuck pairs → SpansFound ch (r .spans)
+      → r .tracks ≡ replicate 512 (track 0) → FillDone ch ring r ring′
   unfolding outcomeOf ringHeld tracksBy
-  stuck-done untouched shown outcome bare =
+  stuck-done untouched shown outcome spans bare =
       record {
         outcome = rw stuck-there (outcome ∙ ap Stuck (shown .counted));
+        spans = spans;
         tracks = rw stuck-there bare;
         held = rw stuck-there (shown .shown ∙ ap (overlay (ringNumbers (ringOf (netItems ch) (take n left))))
             untouched);

@@ -4,13 +4,11 @@ use Prim.Native.Nat.{ℕ, zero, suc, _+_, _≤_, _<_}
 use mathlib.Core.Path.{_≡_}
 use mathlib.Core.List.{List, [], _∷_, _++_, map, List·Memᴰ}
 use mathlib.Core.Bool.{Bool, _&&_}
-use lib.ListN.{length, take, getD}
+use lib.ListN.{length, getD}
 use lib.Dec.{eqb}
-use lib.Seq.{slice}
 use Rattle.lists.specs.Lists.{keep, upTo, headOr, at}
 use Rattle.channel.specs.Channel.{Channel, width}
 use Rattle.channel.specs.Constraints.{above, Step}
-use Rattle.leftedge.specs.Walk.{ringNumbers}
 
 -- in column c net n is directly above a net without a track
 unfoldable pub overUnplaced : Channel → List ℕ → ℕ → ℕ → Bool
@@ -41,10 +39,6 @@ pairOf columns n = record { net = n; column = getD columns n 0 }
 abbrev pub stepsBy : List ℕ → List ℕ → List Step
 stepsBy columns ns = map (pairOf columns) ns
 
--- the pairs of the trail's places f to i - 1, counted from 0, as numbers
-abbrev pub pairs : List ℕ → List ℕ → ℕ → ℕ → List ℕ
-pairs columns trail f i = ringNumbers (stepsBy columns (slice f i trail))
-
 -- a list of nets that the walk never leaves
 pub record Confines (bot columns : List ℕ) (start : ℕ) (ns : List ℕ) : Type 0 where
   pub few : length ns ≤ 511
@@ -61,12 +55,20 @@ pub data Visited (ns : List ℕ) (n v : ℕ) : Type 0 where
   not-yet : v ≡ 0 → (List·Memᴰ n ns → ⊥) → Visited ns n v
   visited : (i : ℕ) → v ≡ i + 1 → i < length ns → getD ns i 0 ≡ n → Visited ns n v
 
--- A walk that has come to n in so many steps: its nets are the front of `trail`, none is met again on the way, and
--- `visits` has the place of each.
-pub record Trail (next : ℕ → ℕ) (start : ℕ) (trail visits : List ℕ) (n steps : ℕ) : Type 0 where
-  pub long : length trail ≡ 512
-  pub marked : length visits ≡ 512
+-- A walk that has come to n in so many steps: none of its nets is met again on the way, and `visits` has the place of
+-- each.
+pub record Marked (next : ℕ → ℕ) (start : ℕ) (visits : List ℕ) (n steps : ℕ) : Type 0 where
+  pub long : length visits ≡ 512
   pub here : n ≡ after next start steps
-  pub nets : take steps trail ≡ met next start steps
   pub unmet : (k : ℕ) → k < steps → List·Memᴰ (after next start k) (met next start k) → ⊥
   pub places : (m : ℕ) → m < 512 → Visited (met next start steps) m (getD visits m 0)
+
+-- a walk that meets a net again, `count` steps after its first visit, and no net before
+pub record Closes (next : ℕ → ℕ) (start again count : ℕ) : Type 0 where
+  pub steps : ℕ
+  pub place : ℕ
+  pub split : place + count ≡ steps
+  pub some : 0 < count
+  pub first : again ≡ after next start place
+  pub second : again ≡ after next start steps
+  pub unmet : (k : ℕ) → k < steps → List·Memᴰ (after next start k) (met next start k) → ⊥

@@ -1,16 +1,16 @@
 -- The ring that the code shows is the walk's. Of each net left the column kept is that of its first drop, so the code's
--- trail and the walk's are one, and the part from the first visit of the net met again on is the trail from the place
--- that is marked for it.
-use Prim.Native.Nat.{ℕ, zero, suc, _+_, _-_, _≤_, _<_}
+-- walk and the definition's are one, and the part from the first visit of the net met again on is the walk from that
+-- net until it is met.
+use Prim.Native.Nat.{ℕ, zero, suc, _+_, _*_, _≤_, _<_}
 use native.Mathlib.Omega.{arith}
 use mathlib.Core.Path.{_≡_, refl, sym, _∙_, ap, subst}
 use mathlib.Core.List.{List, [], _∷_, _++_, map, List·Memᴰ, Memᴰ·cast}
 use mathlib.Core.Bool.{Bool, true, false, _&&_}
 use lib.ListN.{length, take, drop, getD, length-map}
-use lib.Seq.{slice, length-take-le, getD-take, length-slice}
+use lib.Seq.{length-take-le}
 use lib.Dec.{T, eqb, eqb→eq, eqb-refl}
 use borrow.Author.Tests.{eq-eqb, ne-eqb}
-use Rattle.lists.specs.Lists.{keep, isIn, upTo, headOr, at, least, Distinct}
+use Rattle.lists.specs.Lists.{keep, isIn, upTo, headOr, at, least, overlay, Distinct}
 use Rattle.lists.specs.Tests.{same-test, T→true, true→T, fails→false}
 use Rattle.lists.specs.Members.{isIn→member, member→isIn, in-upTo}
 use Rattle.lists.specs.Pigeonhole.{distinct-head, distinct-tail, pigeonhole}
@@ -23,17 +23,15 @@ use Rattle.channel.specs.Laws.{above→}
 use Rattle.channel.specs.SpanLaws.{IsNet, spanning→, above-column, lower-spans}
 use Rattle.channel.specs.Spans.{each512}
 use Rattle.leftedge.specs.Items.{Items}
-use Rattle.leftedge.specs.Walk.{firstDrop, fromVisit, walk, ringOf}
+use Rattle.leftedge.specs.Walk.{firstDrop, fromVisit, walk, ringOf, ringNumbers}
 use Rattle.leftedge.specs.Nets.{netItems}
 use Rattle.leftedge.specs.WalkLaws.{first-drop, least-left}
 use Rattle.leftedge.specs.NetLaws.{order→spanning, falls→above}
-use Rattle.leftedge.specs.Code.{WalkFrom}
+use Rattle.leftedge.specs.Code.{WalkFrom, RingShown}
 use Rattle.leftedge.specs.Ring.{overUnplaced, lowestDrop, netBelow, after, met, pairOf, stepsBy, Confines}
-use Rattle.leftedge.specs.Ring.{Visited, not-yet}
-use Rattle.leftedge.specs.Ring.{visited, Trail}
 use Rattle.leftedge.specs.RingLists.{keep-same, keep-map, steps-more}
-use Rattle.leftedge.specs.TrailLaws.{length-met, met-distinct, after-inside, met-inside, met-few, trail-low}
-use Rattle.leftedge.specs.TrailLaws.{trail-short}
+use Rattle.leftedge.specs.Ring.{Closes}
+use Rattle.leftedge.specs.TrailLaws.{length-met, getD-met, drop-met, met-distinct, after-inside, met-few}
 
 -- the drop in column c
 abbrev dropIn : List ℕ → ℕ → Drop
@@ -101,18 +99,6 @@ module _ (it : Items) (left : List ℕ) where
             unfold after met in (ap (λ (l : List Step). walk fuel it left l (next (after next start k)))
             (sym (steps-more columns (met next start k) (after next start k))))
 
--- what a trail shows of the ring: the net met again has a mark, 1 plus its place, and from there on the trail is the
--- ring
-pub record Shows (ring : List Step) (columns trail : List ℕ) (again mark steps : ℕ) : Type 0 where
-  pub low : again < 512
-  pub few : steps ≤ 511
-  pub fits : steps ≤ length trail
-  pub nets : (i : ℕ) → i < steps → getD trail i 0 < 512
-  pub first : 1 ≤ mark
-  pub last : mark ≤ steps
-  pub shown : stepsBy columns (slice (mark - 1) steps trail) ≡ ring
-  pub counted : steps - (mark - 1) ≡ length ring
-
 module _ (ch : Channel) (tracks left : List ℕ) (count : ℕ) (w : WalkFrom ch tracks left count) where
   abbrev ls : List ℕ
   ls = take count left
@@ -151,7 +137,7 @@ module _ (ch : Channel) (tracks left : List ℕ) (count : ℕ) (w : WalkFrom ch 
       let l = length-from 1 511 in
       omega arith
 
-  pub left-counted : (0 < count) × (count ≤ 511)
+  pub left-counted : (0 < count) × (count ≤ 512)
   left-counted =
       let l = length-take-le count left (w .fits) in
       let some = w .stuck-with .some-left in
@@ -190,74 +176,68 @@ module _ (ch : Channel) (tracks left : List ℕ) (count : ℕ) (w : WalkFrom ch 
             Memᴰ·cast (sym (ap (λ (d : Drop). d .lower) (column-kept n m)))
             (first-drop (netItems ch) ls (w .stuck-with) n m .1)
 
-    module _ (trail visits : List ℕ) (again steps : ℕ)
-        (t : Trail (netBelow (ch .bot) columns) (least ls) trail visits again steps) where
+    module _ {again pairs : ℕ} (t : Closes (netBelow (ch .bot) columns) (least ls) again pairs) where
       abbrev down : ℕ → ℕ
       down = netBelow (ch .bot) columns
 
+      -- nor does it from the net met again
+      pub again-confines : Confines (ch .bot) columns again ls
+      again-confines =
+          let c = left-confines in
+          record {
+            few = c .few;
+            low = c .low;
+            begins = Memᴰ·cast (t .first) (after-inside down (least ls) ls (c .begins) (c .stays) (t .place));
+            column = c .column;
+            stays = c .stays;
+          }
+
+      steps-few : t .steps ≤ length ls
+      steps-few = met-few down (least ls) ls (left-confines .begins) (left-confines .stays) (t .steps) (t .unmet)
+
+      pub pairs-few : pairs ≤ 511
+      pairs-few = let a = steps-few in let b = left-few in let s = t .split in omega arith
+
+      pub pairs-fit : {room : ℕ} → 1022 ≤ room → 2 * pairs ≤ room
+      pairs-fit h = let f = pairs-few in omega arith
+
       abbrev nets : List ℕ
-      nets = met down (least ls) steps
+      nets = met down (least ls) (t .steps)
 
-      size : length nets ≡ steps
-      size = length-met down (least ls) steps
+      first-place : getD nets (t .place) 0 ≡ again
+      first-place =
+          let s = t .split in let p = t .some in
+          getD-met down (least ls) (t .steps) (t .place) (omega arith) ∙ sym (t .first)
 
-      few : steps ≤ 511
-      few = trail-short (ch .bot) columns (least ls) ls left-confines trail visits again steps t
+      inside : t .place < length nets
+      inside = let s = t .split in let p = t .some in omega (arith, length-met down (least ls) (t .steps))
 
-      low-nets : (i : ℕ) → i < steps → getD trail i 0 < 512
-      low-nets i h =
-          let same : getD trail i 0 ≡ getD nets i 0 = sym (getD-take steps trail i 0 h)
-          ∙ ap (λ (l : List ℕ). getD l i 0) (t .nets) in
-          let low = left-confines .low _ (met-inside down (least ls) ls (left-confines .begins)
-          (left-confines .stays) steps _ (getD-member nets i (omega (arith, size)))) in
-          omega arith
+      walked : ringOf (netItems ch) ls ≡ fromVisit again (stepsBy columns nets)
+      walked =
+          unfold ringOf after met in
+          (walk-met (netItems ch) ls columns down (least ls) (t .steps)
+          (λ k. column-kept _ (after-inside down (least ls) ls (left-confines .begins) (left-confines .stays) k))
+          (t .unmet) (Memᴰ·cast (sym (t .second) ∙ sym first-place) (getD-member nets (t .place) inside)) (t .steps) 0
+          (length ls) (omega arith) (let few = steps-few in omega arith)
+          ∙ ap (λ (n : ℕ). fromVisit n (stepsBy columns nets)) (sym (t .second)))
 
-      -- the walk's ring is the trail from place i on, which holds the net met again
-      ring-from : (i : ℕ) → i < steps → getD nets i 0 ≡ again
-          → stepsBy columns (slice i steps trail) ≡ ringOf (netItems ch) ls
-      ring-from i h q =
-          ap (λ (l : List ℕ). stepsBy columns (drop i l)) (t .nets)
-          ∙ (sym (from-place columns nets i again (met-distinct down (least ls) steps (t .unmet))
-          (omega (arith, size)) q) ∙ (ap (λ (n : ℕ). fromVisit n (stepsBy columns nets)) (t .here) ∙ sym walked))
-        where
-          met-again : List·Memᴰ (after down (least ls) steps) nets
-          met-again = Memᴰ·cast (sym (t .here) ∙ sym q) (getD-member nets i (omega (arith, size)))
+      -- the walk's ring is the walk from the net met again until it is met
+      pub ring-closed : stepsBy columns (met down again pairs) ≡ ringOf (netItems ch) ls
+      ring-closed =
+          ap (λ (n : ℕ). stepsBy columns (met down n pairs)) (t .first)
+          ∙ (ap (stepsBy columns) (sym (drop-met down (least ls) (t .place) pairs)
+          ∙ ap (λ (k : ℕ). drop (t .place) (met down (least ls) k)) (t .split))
+          ∙ (sym (from-place columns nets (t .place) again (met-distinct down (least ls) (t .steps) (t .unmet)) inside
+          first-place) ∙ sym walked))
 
-          walked : ringOf (netItems ch) ls ≡ fromVisit (after down (least ls) steps) (stepsBy columns nets)
-          walked =
-              unfold ringOf after met in
-              (walk-met (netItems ch) ls columns down (least ls) steps
-              (λ k. column-kept _ (after-inside down (least ls) ls (left-confines .begins) (left-confines .stays) k))
-              (t .unmet) met-again steps 0 (length ls) (omega arith)
-              (let few = met-few down (least ls) ls (left-confines .begins) (left-confines .stays) steps (t .unmet) in
-              omega arith))
-
-      -- so it is shown from the place that is marked for that net
-      pub ring-shown : (getD visits again 0 ≡ 0 → ⊥)
-          → Shows (ringOf (netItems ch) ls) columns trail again (getD visits again 0) steps
-      ring-shown marked = go (t .places again low)
-        where
-          low : again < 512
-          low = trail-low (ch .bot) columns (least ls) ls left-confines trail visits again steps t
-
-          fits : steps ≤ length trail
-          fits = let long = t .long in omega (arith, few)
-
-          go : Visited nets again (getD visits again 0) → Shows (ringOf (netItems ch) ls) columns trail again
-              (getD visits again 0) steps
-          go (not-yet z h) = absurd (marked z)
-          go (visited i z h q) =
-              let here : getD visits again 0 - 1 ≡ i = omega arith in
-              let shown = ring-from i (omega (arith, size)) q in
-              record {
-                low = low;
-                few = few;
-                fits = fits;
-                nets = low-nets;
-                first = omega arith;
-                last = omega (arith, size);
-                shown = rw here shown;
-                counted = rw here (sym (length-slice i steps trail fits)
-                    ∙ (sym (length-map (slice i steps trail) (pairOf columns))
-                    ∙ ap (λ (ss : List Step). length ss) shown));
-              }
+      -- so it is shown
+      pub ring-shown : {ring ring′ : List ℕ}
+          → ring′ ≡ overlay (ringNumbers (stepsBy columns (met down again pairs))) ring
+          → RingShown ch ls ring pairs ring′
+      ring-shown {ring} e =
+          record {
+            counted =
+                sym (length-met down again pairs) ∙ (sym (length-map (met down again pairs) (pairOf columns))
+                ∙ ap (λ (ss : List Step). length ss) ring-closed);
+            shown = e ∙ ap (λ (ss : List Step). overlay (ringNumbers ss) ring) ring-closed;
+          }

@@ -7,15 +7,15 @@ use mathlib.Core.Path.{_≡_, refl, sym, _∙_, ap}
 use mathlib.Core.List.{List, _∷_, _++_, map, append-assoc, append-nil, List·Memᴰ, List·Memᴰ·head, List·Memᴰ·tail}
 use mathlib.Core.List.{Memᴰ·cast}
 use mathlib.Core.Logic.{⊎-elim}
-use mathlib.Core.Bool.{Bool, true, false, _&&_}
+use mathlib.Core.Bool.{Bool, true, false, _&&_, and-comm}
 use mathlib.Core.Option.{Option, none, some}
 use lib.ListN.{length, getD, set, take, drop, length-set, length-take, drop-of-length-le}
 use lib.Seq.{drop-cons, drop-set-lt, take-set-lt, take-suc-set, length-take-le, getD-take, getD-set-same}
 use lib.Seq.{getD-set-other}
-use lib.Dec.{T, ltb, eqb}
+use lib.Dec.{T, eqb}
 use borrow.Author.Tests.{lt-ltb}
 use Rattle.lists.specs.Lists.{at, anyOf, Distinct}
-use Rattle.lists.specs.Tests.{fails→false, equal?}
+use Rattle.lists.specs.Tests.{fails→false, equal?, eq→T, or-left}
 use Rattle.lists.specs.Pigeonhole.{distinct-head, distinct-tail}
 use Rattle.lists.specs.Counts.{lowered, lowered-length}
 use Rattle.items.specs.Chains.{Chained}
@@ -24,15 +24,15 @@ use Rattle.items.specs.StepLaws.{waiting-all, can-lower, lowered-waits}
 use Rattle.leftedge.specs.Items.{Items, itemsBelow, Place, isPlaced, fits, clearBelow}
 use Rattle.leftedge.specs.Fill.{Scan, scan}
 use Rattle.leftedge.specs.TrackLaws.{place, track-new, track-old, placed-cases}
-use Rattle.leftedge.specs.Tables.{Held, ScanBegins, ScanDone}
+use Rattle.leftedge.specs.Tables.{netAt, mayFollow, Held, ScanBegins, ScanDone}
 
 -- a scan that has left some items before
 abbrev after-left : List ℕ → Scan → Scan
 after-left xs s = record { placed = s .placed; left = xs ++ s .left }
 
 -- after i items: `rest` of them are left, and stand at the front; `before` is the last placed on this track
-pub record SoFar (it : Items) (ps₀ : List Place) (first under₀ left₀ : List ℕ) (count : ℕ) (tracks₀ : List ℕ) (k : ℕ)
-    (under left tracks : List ℕ) (end rest i : ℕ) : Type 0 where
+pub record SoFar (it : Items) (ps₀ : List Place) (first nets under₀ left₀ : List ℕ) (count : ℕ) (tracks₀ : List ℕ)
+    (k : ℕ) (under left tracks : List ℕ) (end net rest i : ℕ) : Type 0 where
   pub before : Option ℕ
   pub ps : List Place
   pub long : (length under ≡ length under₀) × (length left ≡ length left₀) × (length tracks ≡ length tracks₀)
@@ -42,12 +42,13 @@ pub record SoFar (it : Items) (ps₀ : List Place) (first under₀ left₀ : Lis
   pub held : Held it ps under tracks
   pub distinct : Distinct (drop i (take count left))
   pub fresh : (n : ℕ) → List·Memᴰ n (drop i (take count left)) → List·Memᴰ n (it .order) × (T (isPlaced ps n) → ⊥)
-  pub ends : (n : ℕ) → List·Memᴰ n (it .order) → fits it before n ≡ ltb end (getD first n 0)
+  pub ends : (n : ℕ) → List·Memᴰ n (it .order) → (T (isPlaced ps n) → ⊥)
+      → fits it before n ≡ mayFollow end net (getD first n 0) (netAt nets n)
 
-module _ {it : Items} {ps₀ : List Place} {first last us head next under₀ left₀ : List ℕ} {count : ℕ} {tracks₀ : List ℕ}
-    (b : ScanBegins it ps₀ first last us head next under₀ left₀ count tracks₀) where
-  pub starts : (k : ℕ) → SoFar it ps₀ first under₀ left₀ count tracks₀ k under₀ left₀ tracks₀ 0 0 0
-  unfolding fits
+module _ {it : Items} {ps₀ : List Place} {first last nets us head next under₀ left₀ : List ℕ} {count : ℕ}
+    {tracks₀ : List ℕ} (b : ScanBegins it ps₀ first last nets us head next under₀ left₀ count tracks₀) where
+  pub starts : (k : ℕ) → SoFar it ps₀ first nets under₀ left₀ count tracks₀ k under₀ left₀ tracks₀ 0 0 0 0
+  unfolding fits mayFollow
   starts k =
       record {
         before = none;
@@ -58,11 +59,11 @@ module _ {it : Items} {ps₀ : List Place} {first last us head next under₀ lef
         held = b .held;
         distinct = b .distinct;
         fresh = λ n m. (b .items n m, b .fresh n m);
-        ends = λ n m. sym (lt-ltb 0 (getD first n 0) (b .tabled .starts n m));
+        ends = λ n m f. rw (lt-ltb 0 (getD first n 0) (b .tabled .starts n m));
       }
 
-  module _ {k : ℕ} {under left tracks : List ℕ} {end rest i : ℕ}
-      (s : SoFar it ps₀ first under₀ left₀ count tracks₀ k under left tracks end rest i) where
+  module _ {k : ℕ} {under left tracks : List ℕ} {end net rest i : ℕ}
+      (s : SoFar it ps₀ first nets under₀ left₀ count tracks₀ k under left tracks end net rest i) where
     -- no item is ahead
     pub all-seen : count ≤ i → ScanDone it (scan it k none ps₀ (take count left₀)) rest under left tracks
     unfolding scan
@@ -92,8 +93,11 @@ module _ {it : Items} {ps₀ : List Place} {first last us head next under₀ lef
           let t = b .tabled .number n item in let h = s .held .number n item in
           (omega arith, s .near .0, t .0, t .1, t .2, h .0, h .1)
 
+      free : T (isPlaced (s .ps) n) → ⊥
+      free = s .fresh n (rw ahead (List·Memᴰ·head refl)) .1
+
       unplaced : isPlaced (s .ps) n ≡ false
-      unplaced = fails→false (isPlaced (s .ps) n) (s .fresh n (rw ahead (List·Memᴰ·head refl)) .1)
+      unplaced = fails→false (isPlaced (s .ps) n) free
 
       rises : Rises (itemsBelow it) us next (getD head n 0) n
       rises = b .tabled .stepped .rises n item
@@ -109,17 +113,21 @@ module _ {it : Items} {ps₀ : List Place} {first last us head next under₀ lef
 
       -- the test of the code, and it is that of the scan
       abbrev chosen : Bool
-      chosen = ltb end (getD first n 0) && eqb (getD under n 0) 0
+      chosen = eqb (getD under n 0) 0 && mayFollow end net (getD first n 0) (netAt nets n)
 
       test : fits it (s .before) n && clearBelow it (s .ps) n ≡ chosen
       unfolding clearBelow
-      test = rw (s .ends n item, s .held .waits n, waiting-all)
+      test =
+          and-comm (fits it (s .before) n) (clearBelow it (s .ps) n)
+          ∙ rw (s .ends n item free, s .held .waits n, waiting-all)
 
       pub takes : chosen ≡ true → (under′ : List ℕ)
           → ((cs : List ℕ) → Chained next (getD head n 0) cs → under′ ≡ lowered (map (at us) cs) under)
-          → SoFar it ps₀ first under₀ left₀ count tracks₀ k under′ left (set tracks n k) (getD last n 0) rest (i + 1)
+          → (net′ : ℕ) → net′ ≡ netAt nets n
+          → SoFar it ps₀ first nets under₀ left₀ count tracks₀ k under′ left (set tracks n k) (getD last n 0) net′ rest
+          (i + 1)
       unfolding fits scan isPlaced anyOf
-      takes taken under′ lowers =
+      takes taken under′ lowers net′ same =
           record {
             before = some n;
             ps = now;
@@ -142,7 +150,8 @@ module _ {it : Items} {ps₀ : List Place} {first last us head next under₀ lef
               λ t. ⊎-elim (λ e. distinct-head n ns (rw ahead at (s .distinct)) (Memᴰ·cast (sym e) h)) (f .1)
                   (placed-cases n k (s .ps) m t),
             );
-            ends = λ m h. b .tabled .fits n m item h;
+            ends = λ m h f. rw same (b .tabled .fits n m item h
+                (λ e. f (or-left (eqb n m) (isPlaced (s .ps) m) (eq→T n m e))));
           }
         where
           under-now : under′ ≡ lowered (map (at us) (rises .places)) under
@@ -152,7 +161,8 @@ module _ {it : Items} {ps₀ : List Place} {first last us head next under₀ lef
           length-under = rw under-now (lowered-length (map (at us) (rises .places)) under)
 
       pub leaves : chosen ≡ false
-          → SoFar it ps₀ first under₀ left₀ count tracks₀ k under (set left rest n) tracks end (rest + 1) (i + 1)
+          → SoFar it ps₀ first nets under₀ left₀ count tracks₀ k under (set left rest n) tracks end net (rest + 1)
+          (i + 1)
       unfolding scan
       leaves passed =
           record {

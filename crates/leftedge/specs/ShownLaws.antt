@@ -54,7 +54,7 @@ module _ (ch : Channel) where
   fill-shown = ap fillItems items-shown
 
   -- what the code finds and fills of the rows that show nets only is the channel's
-  pub spans-shown : {s : Spans} → SpansFound shown s → SpansFound ch s
+  spans-shown : {s : Spans} → SpansFound shown s → SpansFound ch s
   spans-shown h =
       record {
         first = h .first ∙ ap (map column)
@@ -77,6 +77,7 @@ module _ (ch : Channel) where
   filled-shown {ring} h =
       record {
         outcome = h .outcome ∙ (outcome-shown (fill shown) ∙ ap (outcomeOf ch) fill-shown);
+        spans = spans-shown (h .spans);
         tracks = h .tracks ∙ ap tracksBy fill-shown;
         held = h .held ∙ (held-shown (fill shown) ring ∙ ap (λ (f : Filling). ringHeld ch f ring) fill-shown);
       }

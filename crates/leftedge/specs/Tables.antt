@@ -4,8 +4,9 @@ use Prim.Native.Nat.{ℕ, _≤_, _<_}
 use mathlib.Core.Path.{_≡_}
 use mathlib.Core.List.{List, [], List·Memᴰ}
 use mathlib.Core.Logic.{_↔_}
+use mathlib.Core.Bool.{Bool, cond, _&&_, _||_}
 use lib.ListN.{length, take, getD}
-use lib.Dec.{T, ltb}
+use lib.Dec.{T, ltb, eqb}
 use Rattle.lists.specs.Lists.{Distinct}
 use Rattle.items.specs.Steps.{waiting, Stepped}
 use Rattle.leftedge.specs.declared.tracks.FillEnd.{FillEnd}
@@ -14,11 +15,20 @@ use Rattle.leftedge.specs.Items.{Items, itemsBelow, Place, isPlaced, tra
 use Rattle.leftedge.specs.Fill.{Scan, Filling, filled, stuck}
 use Rattle.leftedge.specs.Invariants.{Orderly}
 
--- which item fits after which, by their columns; and the places in which each stands below another
-pub record Tabled (it : Items) (first last us head next : List ℕ) : Type 0 where
+-- the net of an item; one past the end of the table is a net of its own
+unfoldable pub netAt : List ℕ → ℕ → ℕ
+netAt nets n = cond (ltb n (length nets)) (getD nets n 0) n
+
+-- whether an item that starts in column `start` may follow on a track one that ends in column `end`: past that column,
+-- or in it where both are of one net
+unfoldable pub mayFollow : ℕ → ℕ → ℕ → ℕ → Bool
+mayFollow end of start net = ltb end start || (eqb end start && eqb of net)
+
+-- which item fits after which, by their columns and nets; and the places in which each stands below another
+pub record Tabled (it : Items) (first last nets us head next : List ℕ) : Type 0 where
   pub stepped : Stepped (itemsBelow it) (it .order) us head next
-  pub fits : (m n : ℕ) → List·Memᴰ m (it .order) → List·Memᴰ n (it .order)
-      → it .fitsAfter m n ≡ ltb (getD last m 0) (getD first n 0)
+  pub fits : (m n : ℕ) → List·Memᴰ m (it .order) → List·Memᴰ n (it .order) → (m ≡ n → ⊥)
+      → it .fitsAfter m n ≡ mayFollow (getD last m 0) (netAt nets m) (getD first n 0) (netAt nets n)
   pub starts : (n : ℕ) → List·Memᴰ n (it .order) → 0 < getD first n 0
   pub number : (n : ℕ) → List·Memᴰ n (it .order) → (n < length first) × (n < length last) × (n < length head)
 
@@ -29,19 +39,19 @@ pub record Held (it : Items) (ps : List Place) (under tracks : List ℕ) : Type 
   pub number : (n : ℕ) → List·Memᴰ n (it .order) → (n < length under) × (n < length tracks)
 
 -- where a scan begins: the first `count` of `left` are different items that are not placed
-pub record ScanBegins (it : Items) (ps : List Place) (first last us head next under left : List ℕ) (count : ℕ)
+pub record ScanBegins (it : Items) (ps : List Place) (first last nets us head next under left : List ℕ) (count : ℕ)
     (tracks : List ℕ) : Type 0 where
-  pub tabled : Tabled it first last us head next
+  pub tabled : Tabled it first last nets us head next
   pub held : Held it ps under tracks
   pub few : count ≤ length left
   pub items : (n : ℕ) → List·Memᴰ n (take count left) → List·Memᴰ n (it .order)
   pub distinct : Distinct (take count left)
   pub fresh : (n : ℕ) → List·Memᴰ n (take count left) → T (isPlaced ps n) → ⊥
 
-pub record ScanFrom (first last us head next under left : List ℕ) (count : ℕ) (tracks : List ℕ) : Type 0 where
+pub record ScanFrom (first last nets us head next under left : List ℕ) (count : ℕ) (tracks : List ℕ) : Type 0 where
   pub it : Items
   pub ps : List Place
-  pub begins : ScanBegins it ps first last us head next under left count tracks
+  pub begins : ScanBegins it ps first last nets us head next under left count tracks
 
 -- What `scan_track` leaves of a scan. Rules out: an item placed in the column where its neighbour ends (held); an item
 -- that is left out of those left (count).
@@ -51,19 +61,19 @@ pub record ScanDone (it : Items) (s : Scan) (r : ℕ) (under′ left′ tracks�
   pub held : Held it (s .placed) under′ tracks′
 
 -- where a fill begins: the first `count` of `left` are the items in the order of the scan, and none is placed
-pub record FillBegins (it : Items) (first last us head next under left : List ℕ) (count : ℕ) (tracks : List ℕ)
+pub record FillBegins (it : Items) (first last nets us head next under left : List ℕ) (count : ℕ) (tracks : List ℕ)
     : Type 0 where
   pub orderly : Orderly it
-  pub tabled : Tabled it first last us head next
+  pub tabled : Tabled it first last nets us head next
   pub held : Held it [] under tracks
   pub order : take count left ≡ it .order
   pub counted : count ≡ length (it .order)
   pub fits : count ≤ length left
   pub few : count < 4294967296
 
-pub record FillFrom (first last us head next under left : List ℕ) (count : ℕ) (tracks : List ℕ) : Type 0 where
+pub record FillFrom (first last nets us head next under left : List ℕ) (count : ℕ) (tracks : List ℕ) : Type 0 where
   pub it : Items
-  pub begins : FillBegins it first last us head next under left count tracks
+  pub begins : FillBegins it first last nets us head next under left count tracks
 
 -- how a fill ends, in numbers: the tracks, or the items left
 unfoldable pub endOf : Filling → FillEnd

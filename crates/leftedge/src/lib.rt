@@ -3,6 +3,7 @@ mod nets;
 mod ring;
 mod tracks;
 
+use channel::Spans;
 use grid::Column;
 use grid::NET_SLOTS;
 use grid::Net;
@@ -25,8 +26,9 @@ pub enum Outcome {
     Stuck(u32),
 }
 
-// A fill: how it ends, and the track of each net by its number, 0 where it has none.
+// A fill: how it ends, the columns of each net, and the track of each net by its number, 0 where it has none.
 pub struct Filled {
     pub outcome: Outcome,
+    pub spans: Spans,
     pub tracks: [Track; NET_SLOTS],
 }

@@ -8,7 +8,7 @@ ghost use Rattle.refusal.specs.Trays.{ringTray};
 ghost use Rattle.grid.specs.Pieces.{track};
 ghost use Rattle.channel.specs.Channel.{rows};
 ghost use Rattle.channel.specs.Parked.{NetsOnly};
-ghost use Rattle.channel.specs.Spans.{SpansFound, firsts, lasts};
+ghost use Rattle.channel.specs.Spans.{firsts, lasts};
 ghost use Rattle.leftedge.specs.Nets.{fillOrder, netItems, fill};
 ghost use Rattle.leftedge.specs.Tables.{FillEnds};
 ghost use Rattle.leftedge.specs.Code.{FillDone, NetsBegin};
@@ -17,9 +17,7 @@ use crate::Outcome;
 use crate::ring::show_ring;
 use crate::tracks::FillEnd;
 use crate::tracks::fill_items;
-use channel::Spans;
 use channel::list_spanning;
-use channel::plain_columns;
 use grid::COLUMN_SLOTS;
 use grid::NET_SLOTS;
 use grid::Track;
@@ -79,10 +77,13 @@ fn fill_nets(
 {
     let mut head = [0u16; NET_SLOTS];
     let mut under = [0u16; NET_SLOTS];
+    // each item is a net of its own
+    let parts = [0u32; 0];
     items::link_steps(top, bot, &mut head, next, &mut under);
     fill_items(
         first,
         last,
+        &parts,
         top,
         &head,
         next,
@@ -95,16 +96,14 @@ fn fill_nets(
 
 // Fills the tracks of a channel whose rows show nets only. Where the fill is stuck, the ring's pairs fill the front of
 // `ring`, and no net has a track.
-pub fn fill_tracks(top: &[u32], bot: &[u32], spans: Spans, ring: &mut [u32]) -> Filled
-    requires { ⌜ NetsOnly (rows (now top) (now bot)) × SpansFound (rows (now top) (now bot)) spans
-        × (ringTray ≤ length (now ring)) ⌝ }
+pub fn fill_tracks(top: &[u32], bot: &[u32], ring: &mut [u32]) -> Filled
+    requires { ⌜ NetsOnly (rows (now top) (now bot)) × (ringTray ≤ length (now ring)) ⌝ }
     ensures { λ r.
         ⌜ FillDone (rows (now (top .entry)) (now (bot .entry))) (now (ring .entry)) r (now (ring .exit)) ⌝ }
 {
-    let firsts = spans.first;
-    let lasts = spans.last;
-    let first = plain_columns(firsts);
-    let last = plain_columns(lasts);
+    let mut first = [0u32; NET_SLOTS];
+    let mut last = [0u32; NET_SLOTS];
+    channel::find_columns(top, bot, &mut first, &mut last);
     let mut left = [0u32; NET_SLOTS];
     let mut tracks = [0u32; NET_SLOTS];
     // links of the nets by first column, then of the steps by lower net
@@ -120,11 +119,13 @@ pub fn fill_tracks(top: &[u32], bot: &[u32], spans: Spans, ring: &mut [u32]) -> 
         count,
         &mut tracks,
     );
+    let spans = channel::typed_spans(first, last);
     match end {
         FillEnd::Placed(t) => {
             let placed = typed_tracks(tracks);
             Filled {
                 outcome: Outcome::Placed(t),
+                spans,
                 tracks: placed,
             }
         }
@@ -133,6 +134,7 @@ pub fn fill_tracks(top: &[u32], bot: &[u32], spans: Spans, ring: &mut [u32]) -> 
             let nobody = [Track(0); NET_SLOTS];
             Filled {
                 outcome: Outcome::Stuck(pairs),
+                spans,
                 tracks: nobody,
             }
         }

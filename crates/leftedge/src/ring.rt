@@ -1,13 +1,14 @@
 // The walk that shows a ring where the fill is stuck.
 ghost use mathlib.Core.Path.{_≡_};
-ghost use Prim.Native.Nat.{ℕ, _-_, _*_, _≤_, _<_};
-ghost use lib.ListN.{length, take, getD, replicate};
+ghost use Prim.Native.Nat.{_*_, _≤_, _<_};
+ghost use lib.ListN.{length, take};
 ghost use Rattle.lists.specs.Lists.{least, overlay};
 ghost use Rattle.refusal.specs.Trays.{ringTray};
 ghost use Rattle.channel.specs.Channel.{rows};
 ghost use Rattle.channel.specs.Parked.{NetsOnly};
 ghost use Rattle.channel.specs.Spans.{each512};
-ghost use Rattle.leftedge.specs.Ring.{lowestDrop, netBelow, pairs, Confined, Trail};
+ghost use Rattle.leftedge.specs.Walk.{ringNumbers};
+ghost use Rattle.leftedge.specs.Ring.{lowestDrop, netBelow, met, stepsBy, Confined, Closes};
 ghost use Rattle.leftedge.specs.Code.{RingShown, WalkFrom};
 use grid::NET_SLOTS;
 use grid::Net;
@@ -39,70 +40,59 @@ fn lowest_net(left: &[u32; NET_SLOTS], count: usize) -> Net
     let mut least = left[0];
     let mut i: usize = 1;
     while i < count {
-        if left[i] < least {
-            least = left[i];
-        }
+        let n = left[i];
         i += 1;
+        if n < least {
+            least = n;
+        }
     }
     Net(least)
 }
 
-// Where a walk ends: the net that is met again, and the length of the trail.
+// Where a walk closes: the net that is met again, and the number of steps between its two visits.
 struct Walked {
     again: Net,
-    steps: usize,
+    count: u32,
 }
 
-// Walks down from net `start` until a net is met again. The trail's nets stand at the front of `trail`; `visits` has
-// for each net 1 plus its place in the trail, 0 if it is not visited.
-fn walk_down(
-    bot: &[u32],
-    columns: &[u32; NET_SLOTS],
-    start: Net,
-    trail: &mut [u32; NET_SLOTS],
-    visits: &mut [u32; NET_SLOTS],
-) -> Walked
-    requires { ⌜ Confined (now bot) (now columns) (start .0) × (length (now trail) ≡ 512)
-        × (now visits ≡ replicate 512 0) ⌝ }
+// Walks down from net `start` until a net is met again. `visits` has for each net 1 plus the steps to it, 0 if it is
+// not visited.
+fn walk_down(bot: &[u32], columns: &[u32; NET_SLOTS], start: Net) -> Walked
+    requires { ⌜ Confined (now bot) (now columns) (start .0) ⌝ }
     ensures { λ r.
-        ⌜ Trail (netBelow (now (bot .entry)) (now (columns .entry))) (start .0) (now (trail .exit)) (now (visits .exit))
-        (r .again .0) (r .steps)
-        × (getD (now (visits .exit)) (r .again .0) 0 ≡ 0 → ⊥) ⌝ }
+        ⌜ Closes (netBelow (now (bot .entry)) (now (columns .entry))) (start .0) (r .again .0) (r .count) ⌝ }
 {
-    let mut n = start.0;
-    let mut steps: usize = 0;
-    while visits[n as usize] == 0 {
-        trail[steps] = n;
-        steps += 1;
-        visits[n as usize] = steps as u32;
-        n = bot[columns[n as usize] as usize - 1];
+    let mut visits = [0u32; NET_SLOTS];
+    let mut n = start.0 as usize;
+    let mut mark: u32 = 1;
+    while visits[n] == 0 {
+        visits[n] = mark;
+        mark += 1;
+        n = bot[columns[n] as usize - 1] as usize;
     }
     Walked {
-        again: Net(n),
-        steps,
+        again: Net(n as u32),
+        count: mark - visits[n],
     }
 }
 
-// Stores the steps of the trail from place `from` on as pairs, net and column, at the front of `ring`.
-fn store_pairs(
-    trail: &[u32; NET_SLOTS],
-    columns: &[u32; NET_SLOTS],
-    from: usize,
-    steps: usize,
-    ring: &mut [u32],
-)
-    requires { ⌜ (from ≤ steps) × (steps ≤ 512) × (steps ≤ length (now trail))
-        × (2 * (steps - from) ≤ length (now ring))
-        × ((i : ℕ) → i < steps → getD (now trail) i 0 < 512) ⌝ }
+// Walks `count` steps down from net `again` and stores them as pairs, net and column, at the front of `ring`.
+fn store_pairs(bot: &[u32], columns: &[u32; NET_SLOTS], again: Net, count: u32, ring: &mut [u32])
+    requires { ⌜ Confined (now bot) (now columns) (again .0) × (count ≤ 511)
+        × (2 * count ≤ length (now ring)) ⌝ }
     ensures { λ _.
         ⌜ now (ring .exit)
-        ≡ overlay (pairs (now (columns .entry)) (now (trail .entry)) from steps) (now (ring .entry)) ⌝ }
+        ≡ overlay (ringNumbers (stepsBy (now (columns .entry))
+        (met (netBelow (now (bot .entry)) (now (columns .entry))) (again .0) count))) (now (ring .entry)) ⌝ }
 {
-    let mut i = from;
-    while i < steps {
-        let n = trail[i];
-        ring[2 * (i - from)] = n;
-        ring[2 * (i - from) + 1] = columns[n as usize];
+    let mut n = again.0;
+    let mut i: u32 = 0;
+    while i < count {
+        let at = 2 * i as usize;
+        let c = columns[n as usize];
+        ring[at] = n;
+        ring[at + 1] = c;
+        n = bot[c as usize - 1];
         i += 1;
     }
 }
@@ -122,18 +112,7 @@ pub fn show_ring(
         (now (ring .exit)) ⌝ }
 {
     let columns = lowest_drops(top, bot, tracks);
-    let mut trail = [0u32; NET_SLOTS];
-    let mut visits = [0u32; NET_SLOTS];
-    let walked = walk_down(
-        bot,
-        &columns,
-        lowest_net(left, count),
-        &mut trail,
-        &mut visits,
-    );
-    let again = walked.again.0;
-    let steps = walked.steps;
-    let from = visits[again as usize] as usize - 1;
-    store_pairs(&trail, &columns, from, steps, ring);
-    (steps - from) as u32
+    let walked = walk_down(bot, &columns, lowest_net(left, count));
+    store_pairs(bot, &columns, walked.again, walked.count, ring);
+    walked.count
 }

@@ -1,13 +1,15 @@
 // The fill of items, track by track, over tables by item number: `first` and `last` have the columns of each item,
-// the places of `upper` in which an item stands below are linked by `head` and `next`, and `under` counts the steps
-// below each item that lead to unplaced ones. At worst as many looks as items times tracks.
+// `nets` the net that it is a part of, the places of `upper` in which an item stands below are linked by `head` and
+// `next`, and `under` counts the steps below each item that lead to unplaced ones. At worst as many looks as items
+// times tracks.
 ghost use mathlib.Core.Path.{_≡_};
 ghost use Prim.Native.Nat.{_<_};
 ghost use mathlib.Core.List.{List};
-ghost use lib.ListN.{length, take};
+ghost use lib.ListN.{length, take, getD};
 ghost use mathlib.Core.Option.{none};
 ghost use Rattle.leftedge.specs.Items.{Items, Place};
 ghost use Rattle.leftedge.specs.Fill.{scan, fillItems};
+ghost use Rattle.leftedge.specs.Tables.{netAt, mayFollow};
 ghost use Rattle.leftedge.specs.Tables.{ScanBegins, ScanFrom, ScanDone, FillBegins, FillFrom, FillEnds};
 use grid::Track;
 
@@ -19,11 +21,35 @@ pub enum FillEnd {
     Stuck(usize),
 }
 
+// The net that item n is a part of; an item past the end of `nets` is a net of its own.
+fn net_of(nets: &[u32], n: u32) -> u32
+    ensures { λ r. ⌜ r ≡ netAt (now (nets .entry)) n ⌝ }
+{
+    if (n as usize) < nets.len() {
+        return nets[n as usize];
+    }
+    n
+}
+
+// Item n may follow on a track one of net `net` that ends in column `end`.
+fn may_follow(first: &[u32], nets: &[u32], n: u32, end: u32, net: u32) -> bool
+    requires { ⌜ n < length (now first) ⌝ }
+    ensures { λ r.
+        ⌜ r ≡ mayFollow end net (getD (now (first .entry)) n 0) (netAt (now (nets .entry)) n) ⌝ }
+{
+    let start = first[n as usize];
+    if start < end {
+        return false;
+    }
+    end != start || net == net_of(nets, n)
+}
+
 // One scan of the first `count` items of `left` for track k: those placed get the track, the others move to the front
 // in their order. Answers how many are left.
 fn scan_track(
     first: &[u32],
     last: &[u32],
+    nets: &[u32],
     upper: &[u32],
     head: &[u16],
     next: &[u16],
@@ -33,30 +59,33 @@ fn scan_track(
     tracks: &mut [u32],
     k: Track,
 ) -> usize
-    requires { ⌜ ScanFrom (now first) (now last) (now upper) (now head) (now next) (now under) (now left) count
-        (now tracks) ⌝ }
+    requires { ⌜ ScanFrom (now first) (now last) (now nets) (now upper) (now head) (now next) (now under) (now left)
+        count (now tracks) ⌝ }
     ensures { λ r.
         ⌜ ((it : Items) (ps : List Place)
-        → ScanBegins it ps (now (first .entry)) (now (last .entry)) (now (upper .entry)) (now (head .entry))
-        (now (next .entry)) (now (under .entry)) (now (left .entry)) count (now (tracks .entry))
+        → ScanBegins it ps (now (first .entry)) (now (last .entry)) (now (nets .entry)) (now (upper .entry))
+        (now (head .entry)) (now (next .entry)) (now (under .entry)) (now (left .entry)) count (now (tracks .entry))
         → ScanDone it (scan it (k .0) none ps (take count (now (left .entry)))) r (now (under .exit))
         (now (left .exit)) (now (tracks .exit))) ⌝ }
 {
-    // the last column of the item placed before on this track, 0 if there is none
+    // the last column and the net of the item placed before on this track, 0 if there is none
     let mut end: u32 = 0;
+    let mut net: u32 = 0;
     let mut rest: usize = 0;
     let mut i: usize = 0;
     while i < count {
-        let n = left[i] as usize;
-        if end < first[n] && under[n] == 0 {
+        let item = left[i];
+        let n = item as usize;
+        i += 1;
+        if under[n] == 0 && may_follow(first, nets, item, end, net) {
             tracks[n] = k.0;
             end = last[n];
+            net = net_of(nets, item);
             items::lower_above(upper, next, head[n], under);
         } else {
-            left[rest] = n as u32;
+            left[rest] = item;
             rest += 1;
         }
-        i += 1;
     }
     rest
 }
@@ -65,6 +94,7 @@ fn scan_track(
 pub fn fill_items(
     first: &[u32],
     last: &[u32],
+    nets: &[u32],
     upper: &[u32],
     head: &[u16],
     next: &[u16],
@@ -73,12 +103,12 @@ pub fn fill_items(
     count: usize,
     tracks: &mut [u32],
 ) -> FillEnd
-    requires { ⌜ FillFrom (now first) (now last) (now upper) (now head) (now next) (now under) (now left) count
-        (now tracks) ⌝ }
+    requires { ⌜ FillFrom (now first) (now last) (now nets) (now upper) (now head) (now next) (now under) (now left)
+        count (now tracks) ⌝ }
     ensures { λ r.
         ⌜ ((it : Items)
-        → FillBegins it (now (first .entry)) (now (last .entry)) (now (upper .entry)) (now (head .entry))
-        (now (next .entry)) (now (under .entry)) (now (left .entry)) count (now (tracks .entry))
+        → FillBegins it (now (first .entry)) (now (last .entry)) (now (nets .entry)) (now (upper .entry))
+        (now (head .entry)) (now (next .entry)) (now (under .entry)) (now (left .entry)) count (now (tracks .entry))
         → FillEnds it (fillItems it) r (now (left .exit)) (now (tracks .exit))) ⌝ }
 {
     let mut rest = count;
@@ -90,6 +120,7 @@ pub fn fill_items(
         let after = scan_track(
             first,
             last,
+            nets,
             upper,
             head,
             next,

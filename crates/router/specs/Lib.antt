@@ -4,7 +4,6 @@ pub mod ContractLaws
 pub mod Code
 pub mod CodeLaws
 pub mod Tables
-pub mod NetsFilled
 pub mod TableLaws
 pub mod Outcomes
 pub mod LentLaws

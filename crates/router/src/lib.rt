@@ -6,12 +6,11 @@ ghost use Rattle.lists.specs.Lists.{overlay};
 ghost use Rattle.refusal.specs.Trays.{recordTray, ringTray, boardTray};
 ghost use Rattle.channel.specs.Channel.{rows};
 ghost use Rattle.channel.specs.Answers.{Escapes};
-ghost use Rattle.channel.specs.Parked.{NetsOnly};
 ghost use Rattle.router.specs.Route.{routeTraysWithRecords};
 ghost use Rattle.router.specs.Code.{RouteDone, RowsDone};
 ghost use Rattle.router.specs.CodeLaws.{HeldBy, Held, RefusedWith};
 ghost use Rattle.router.specs.Tables.{recordsBy, noRecords, Listed};
-ghost use Rattle.router.specs.NetsFilled.{FilledNets};
+ghost use Rattle.leftedge.specs.Code.{FillDone};
 use channel::RowsAnswer;
 use channel::Spans;
 use grid::Column;
@@ -103,36 +102,17 @@ fn refused(refusal: Refusal) -> Routing
     }
 }
 
-// The columns of the nets, and their fill.
-struct NetsFilled {
-    spans: Spans,
-    filled: Filled,
-}
-
-// Fills the tracks of rows that show nets only.
-fn fill_rows(top: &[u32], bot: &[u32], ring: &mut [u32]) -> NetsFilled
-    requires { ⌜ NetsOnly (rows (now top) (now bot)) × (ringTray ≤ length (now ring)) ⌝ }
-    ensures { λ r.
-        ⌜ FilledNets (rows (now (top .entry)) (now (bot .entry))) (now (ring .entry)) (r .spans) (r .filled)
-        (now (ring .exit)) ⌝ }
-{
-    let spans = channel::find_spans(top, bot);
-    let filled = leftedge::fill_tracks(top, bot, spans, ring);
-    NetsFilled { spans, filled }
-}
-
 // Fills the tracks of a channel that escapes refusals 3 to 5, from its rows without the parked pins.
-fn fill_nets(top: &[u32], bot: &[u32], ring: &mut [u32]) -> NetsFilled
+fn fill_nets(top: &[u32], bot: &[u32], ring: &mut [u32]) -> Filled
     requires { ⌜ Escapes (rows (now top) (now bot)) × (ringTray ≤ length (now ring)) ⌝ }
     ensures { λ r.
-        ⌜ FilledNets (rows (now (top .entry)) (now (bot .entry))) (now (ring .entry)) (r .spans) (r .filled)
-        (now (ring .exit)) ⌝ }
+        ⌜ FillDone (rows (now (top .entry)) (now (bot .entry))) (now (ring .entry)) r (now (ring .exit)) ⌝ }
 {
     let w = top.len();
     let mut upper = [0u32; WIDEST];
     let mut lower = [0u32; WIDEST];
     channel::remove_parked(top, bot, &mut upper, &mut lower);
-    fill_rows(&upper[..w], &lower[..w], ring)
+    leftedge::fill_tracks(&upper[..w], &lower[..w], ring)
 }
 
 // Routes a channel that escapes refusals 3 to 5, with the buffers that it needs. A parked number has no columns, so
@@ -145,9 +125,8 @@ fn route_checked(top: &[u32], bot: &[u32], ring: &mut [u32], board: &mut [u8]) -
         ⌜ Held (rows (now (top .entry)) (now (bot .entry))) (now (ring .entry)) (now (board .entry)) r
         (now (ring .exit)) (now (board .exit)) ⌝ }
 {
-    let nets = fill_nets(top, bot, ring);
-    let spans = nets.spans;
-    let filled = nets.filled;
+    let filled = fill_nets(top, bot, ring);
+    let spans = filled.spans;
     let outcome = filled.outcome;
     let tracks = filled.tracks;
     match outcome {

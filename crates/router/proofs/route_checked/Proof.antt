@@ -17,17 +17,17 @@ begun c = c .before .before .before .before .before .before
 draw-board-requires : tie.Need-draw-board-requires
 draw-board-requires c κs =
     let o = c .before .before in
-    let f = o .before .before .before .before .before .before .before in
+    let f = o .before .before .before .before .before .before in
     let pre = begun f .pre in
-    let placed = placed→ (f .fill-nets .ensures .filled) (o .outcome2 .given .1) .0 in
+    let placed = placed→ (f .fill-nets .ensures) (o .outcome2 .given .1) .0 in
     (placed-drawable (channel (begun f)) (pre .0) (pre .2) placed, f .fill-nets .ensures .spans)
 
 returns : tie.Need-returns
 returns c =
     let o = c .before .before in
-    let f = o .before .before .before .before .before .before .before in
+    let f = o .before .before .before .before .before .before in
     let b = begun f in
-    let done = f .fill-nets .ensures .filled in
+    let done = f .fill-nets .ensures in
     tangled-held (channel b) _ _ (b .pre .1) (b .pre .2) (b .pre .0) done (o .outcome .given .1) (c .refused .ensures)
 
 returns-2 : tie.Need-returns-2
@@ -35,10 +35,10 @@ returns-2 c =
     let m = c .before in
     let d = m .before .before .before in
     let o = d .before .before .before in
-    let f = o .before .before .before .before .before .before .before in
+    let f = o .before .before .before .before .before .before in
     let b = begun f in
     let nets = f .fill-nets .ensures in
-    routed-held (channel b) _ _ (b .pre .1) (b .pre .2) (b .pre .0) (nets .filled) (o .outcome2 .given .1)
+    routed-held (channel b) _ _ (b .pre .1) (b .pre .2) (b .pre .0) nets (o .outcome2 .given .1)
     (nets .spans) refl (d .draw-board .ensures) (m .make-records .ensures)
 
 pub route-checked-spec : {M : Type 1} → statement M

@@ -2,12 +2,13 @@
 -- columns found in them, and for the nets with spans, which stand at the front of the list.
 use Prim.Native.Nat.{_≤_}
 use native.Mathlib.Omega.{arith}
-use mathlib.Core.Path.{_≡_, sym}
+use mathlib.Core.Path.{_≡_, sym, _∙_, ap}
 use borrow.Author.Needs.{needs}
 use lib.ListN.{length, take}
 use lib.Seq.{length-take-le}
+use Rattle.lists.specs.Arrays.{length-map-from}
 use Rattle.lists.specs.Overlays.{front-of}
-use Rattle.channel.specs.Channel.{Channel, rows, spanning}
+use Rattle.channel.specs.Channel.{Channel, rows, firstColumn, spanning}
 use Rattle.channel.specs.SpanLaws.{spanning-small}
 use Rattle.channel.proofs.lower_bounds.bounds_of_nets.Statement.{statement}
 use Rattle.channel.proofs.lower_bounds.bounds_of_nets.Tie as tie
@@ -46,14 +47,17 @@ density-of-requires c κs =
     let e = found l .find-columns .ensures in
     (start l .pre, listed l, e .0, e .1)
 
+first-long : (l : Listed) → length (found l .find-columns .last .1 .1 .0) ≡ 512
+first-long l = ap length (found l .find-columns .ensures .0) ∙ length-map-from (firstColumn (channel l)) 512
+
 chain-of-requires : tie.Need-chain-of-requires
 chain-of-requires c κs =
-    let l = c .before .before .before .before .before .before in (start l .pre, listed l)
+    let l = c .before .before .before .before .before .before in (start l .pre, listed l, first-long l)
 
 pub bounds-of-nets-spec : {M : Type 1} → statement M
 bounds-of-nets-spec =
     tie.close
     (tie.spec (λ c κs. search needs) (λ c. search needs) (λ c κs. search needs)
     (λ c. fits (c .before)) (λ c. counted (c .before .before)) density-of-requires
-    (λ c. fits (c .before .before .before .before .before))
-    (λ c. counted (c .before .before .before .before .before .before)) chain-of-requires (λ c. search needs))
+    (λ c. sym (first-long (c .before .before .before .before .before .before))) chain-of-requires
+    (λ c. search needs))

@@ -40,9 +40,6 @@ element-copy-out-counts c = low c
 add-counts : tie.Need-add-counts Inv-loop μ-loop
 add-counts c = omega (arith, c .before .before .before .loop .inv .1 _ (low (c .before)))
 
-mul-counts-2 : tie.Need-mul-counts-2 Inv-loop μ-loop
-mul-counts-2 c = omega (arith, low (c .before))
-
 element-write-counts : tie.Need-element-write-counts Inv-loop μ-loop
 element-write-counts c = low (c .before)
 
@@ -65,5 +62,5 @@ pub count-pins-spec : {M : Type 1} → statement M
 count-pins-spec =
     tie.close
     (tie.spec Inv-loop μ-loop loop-holds (λ c. search needs) (λ c. search needs) cast-n mul-counts
-    element-copy-out-counts add-counts mul-counts-2 element-write-counts (λ c. omega arith) (λ c. omega arith)
+    element-copy-out-counts add-counts element-write-counts (λ c. omega arith) (λ c. omega arith)
     loop-again returns)

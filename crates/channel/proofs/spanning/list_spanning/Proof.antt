@@ -1,11 +1,10 @@
 -- `channel::spanning::list_spanning` meets its contract. The loop's invariant is `Collected`: of the numbers from 1 to
 -- n those with spans, by the tables, stand at the front of `items`. What is left to the highest number falls.
-use Prim.Native.Nat.{_+_, _≤_, _<_, _-_}
+use Prim.Native.Nat.{ℕ, max, _+_, _≤_, _<_, _-_, _*_}
 use native.Mathlib.Omega.{arith}
 use mathlib.Core.Path.{_≡_, _∙_, ap₂}
-use mathlib.Core.Logic.{⊎-elim}
 use lib.ListN.{length, getD}
-use borrow.Author.Needs.{needs}
+use borrow.Author.Needs.{needs, fits-under}
 use borrow.Author.Tests.{lt-ltb, le-ltb}
 use Rattle.lists.specs.Lists.{upTo, at, greatest}
 use Rattle.lists.specs.Places.{length-from, place-from, at-place}
@@ -19,83 +18,122 @@ use Rattle.channel.proofs.spanning.list_spanning.Statement.{statement}
 use Rattle.channel.proofs.spanning.list_spanning.Tie as tie
 
 abbrev Inv-loop : tie.InvT-loop
-Inv-loop top bot first last items₀ upper lower highest count₀ n₀ items count n =
+Inv-loop top bot first last items₀ upper highest count₀ n₀ items count n =
     Collected (spansBy first last) (upTo highest) items₀ n count items
 
 abbrev μ-loop : tie.MeasureT-loop
-μ-loop top bot first last items₀ upper lower highest count₀ n₀ items count n = highest - n
+μ-loop top bot first last items₀ upper highest count₀ n₀ items count n = highest - n
 
-abbrev start : tie.Joined1 Inv-loop μ-loop → tie.Start Inv-loop μ-loop
-start j = j .before .before .before .before .before .before
+abbrev start : tie.After-highest-number2 Inv-loop μ-loop → tie.Start Inv-loop μ-loop
+start j = j .before .before .before .before .before
 
-abbrev channel : tie.Joined1 Inv-loop μ-loop → Channel
+abbrev channel : tie.After-highest-number2 Inv-loop μ-loop → Channel
 channel j = rows (start j .args .top .now) (start j .args .bot .now)
 
+abbrev found : tie.After-highest-number2 Inv-loop μ-loop → ℕ
+found j = j .highest-number2 .result
+
 -- the highest number of the rows
-highest : (j : tie.Joined1 Inv-loop μ-loop)
-    → (greatest (channel j .top) ≤ j .if1 .highest) × (greatest (channel j .bot) ≤ j .if1 .highest)
-    × (j .if1 .highest ≤ 511)
+highest-of : (t b u h : ℕ) → u ≡ max 0 t → h ≡ max u b → t ≤ 511 → b ≤ 511 → (t ≤ h) × (b ≤ h) × (h ≤ 511)
+highest-of t b u h e f k l = (omega arith, omega arith, omega arith)
+
+under : {h : ℕ} → h ≤ 511 → h < 512
+under l = omega arith
+
+highest : (j : tie.After-highest-number2 Inv-loop μ-loop)
+    → (greatest (channel j .top) ≤ found j) × (greatest (channel j .bot) ≤ found j) × (found j ≤ 511)
 highest j =
     let esc = start j .pre .0 .escapes in
-    let t = greatest≤ (channel j .top) 511 (λ k. top-low (channel j) k esc) in
-    let b = greatest≤ (channel j .bot) 511 (λ k. bot-low (channel j) k esc) in
-    let upper = j .before .before .highest-number .ensures in
-    let lower = j .before .highest-number2 .ensures in
-    ⊎-elim (λ w. omega arith) (λ w. omega arith) (j .if1 .came)
+    highest-of _ _ _ _ (j .before .highest-number .ensures) (j .highest-number2 .ensures)
+    (greatest≤ (channel j .top) 511 (λ k. top-low (channel j) k esc))
+    (greatest≤ (channel j .bot) 511 (λ k. bot-low (channel j) k esc))
 
 -- there is a place for each number up to it
-room : (j : tie.Joined1 Inv-loop μ-loop) → length (upTo (j .if1 .highest)) ≤ length (start j .args .items .now)
-room j = omega (arith, highest j .2, length-from 1 (j .if1 .highest), start j .pre .3)
+room-for : (h k : ℕ) → h ≤ 511 → k ≡ 512 → length (upTo h) ≤ k
+room-for h k l e = omega (arith, length-from 1 h)
+
+room : (j : tie.After-highest-number2 Inv-loop μ-loop) → length (upTo (found j)) ≤ length (start j .args .items .now)
+room j = room-for (found j) _ (highest j .2) (start j .pre .3)
 
 long : (l : tie.At-loop Inv-loop μ-loop) → length (l .loop .items) ≡ length (start (l .before) .args .items .now)
 long l = collected-long _ _ _ _ _ _ (room (l .before)) (l .loop .inv)
 
 -- the number that a turn looks at is the next one, and one of the tables; no more are counted than were looked at
-turn : (c : tie.In-loop Inv-loop μ-loop) → (c .before .loop .n < 511) × (c .before .loop .count < 511)
-    × (c .before .loop .n < length (upTo (c .before .before .if1 .highest)))
-    × (getD (upTo (c .before .before .if1 .highest)) (c .before .loop .n) 0 ≡ c .before .loop .n + 1)
+record Turn (h n count : ℕ) : Type 0 where
+  low : n + 1 < 512
+  place : (n + 1) * 4 < 2048
+  free : count < 512
+  free-place : count * 4 < 2048
+  few : count + 1 < 513
+  ahead : n < length (upTo h)
+  number : getD (upTo h) n 0 ≡ n + 1
+  falls : h - (n + 1) < h - n
+
+ahead-of : (h n : ℕ) → n < h → n < length (upTo h)
+ahead-of h n l = omega (arith, length-from 1 h)
+
+turn-of : (h n count : ℕ) → n < h → h ≤ 511 → count ≤ n → Turn h n count
 unfolding at
+turn-of h n count l most k =
+    record {
+      low = omega arith;
+      place = omega arith;
+      free = omega arith;
+      free-place = omega arith;
+      few = omega arith;
+      ahead = ahead-of h n l;
+      number = at-place (upTo h) n (place-from 1 h n (omega arith)) ∙ omega arith;
+      falls = omega arith;
+    }
+
+turn : (c : tie.In-loop Inv-loop μ-loop) → let l = c .before .loop in
+    Turn (found (c .before .before)) (l .n) (l .count)
 turn c =
     let l = c .before .loop in
-    let h = c .before .before .if1 .highest in
-    let most = highest (c .before .before) .2 in
-    let ahead : l .n < length (upTo h) = omega (arith, length-from 1 h) in
-    let few = collected-few _ _ _ _ _ _ (l .inv) ahead in
-    (omega arith, omega arith, ahead, at-place (upTo h) (l .n) (place-from 1 h (l .n) (omega arith)) ∙ omega arith)
+    let h = found (c .before .before) in
+    turn-of h (l .n) (l .count) (c .loop-test .taken) (highest (c .before .before) .2)
+    (collected-few _ _ _ _ _ _ (l .inv) (ahead-of h (l .n) (c .loop-test .taken)))
+
+abbrev taking : tie.Then1 Inv-loop μ-loop → tie.In-loop Inv-loop μ-loop
+taking c = c .before .before .before
 
 slice-write-items : tie.Need-slice-write-items Inv-loop μ-loop
 slice-write-items c =
-    let t = c .before .before .before in omega (arith, turn t .1, long (t .before), start (t .before .before) .pre .3)
+    let t = taking c in rw (long (t .before), start (t .before .before) .pre .3) (turn t .free)
 
 loop-again : tie.Need-loop-again Inv-loop μ-loop
 loop-again c =
     let t = c .before .before .before in
     let k = turn t in
-    rw (k .3) at (collected-takes _ _ _ _ _ _ (t .before .loop .inv) (k .2) (room (t .before .before))
-    (rw (k .3) (lt-ltb _ _ (c .if2 .taken))))
+    rw (k .number) at (collected-takes _ _ _ _ _ _ (t .before .loop .inv) (k .ahead) (room (t .before .before))
+    (rw (k .number) (lt-ltb _ _ (c .if1 .taken))))
 
 loop-again-2 : tie.Need-loop-again-2 Inv-loop μ-loop
 loop-again-2 c =
     let t = c .before .before .before in
     let k = turn t in
-    collected-skips _ _ _ _ _ _ (t .before .loop .inv) (k .2) (rw (k .3) (le-ltb _ _ (c .if2 .left)))
+    collected-skips _ _ _ _ _ _ (t .before .loop .inv) (k .ahead) (rw (k .number) (le-ltb _ _ (c .if1 .left)))
+
+all-of : (h n : ℕ) → h ≤ n → length (upTo h) ≤ n
+all-of h n l = omega (arith, length-from 1 h)
 
 returns : tie.Need-returns Inv-loop μ-loop
 returns c =
     let j = c .before .before in
     let p = start j .pre in
     let m = highest j in
-    let h = j .if1 .highest in
+    let h = found j in
     let e = ap₂ (λ first last. spansTo first last h) (p .1) (p .2)
     ∙ spanning-numbers (channel j) (p .0 .escapes) h (m .2) (m .0) (m .1) in
-    rw e at (collected-all _ _ _ _ _ _ (omega (arith, length-from 1 h)) (c .before .loop .inv))
+    rw e at (collected-all _ _ _ _ _ _ (all-of h _ (c .loop-test .left)) (c .before .loop .inv))
 
 pub list-spanning-spec : {M : Type 1} → statement M
 list-spanning-spec =
     tie.close
-    (tie.spec Inv-loop μ-loop (λ c κs. search needs) (λ c κs. search needs) (λ c. collected-none _ _ _)
-    (λ c. omega (arith, turn c)) (λ c. omega (arith, turn c)) (λ c. omega (arith, turn c)) (λ c. omega (arith, turn c))
-    (λ c. omega (arith, turn (c .before))) (λ c. omega (arith, turn (c .before))) (λ c. omega (arith, turn (c .before)))
-    (λ c. omega (arith, turn (c .before .before .before))) slice-write-items
-    (λ c. omega (arith, turn (c .before .before .before))) (λ c. omega arith) loop-again (λ c. omega arith) loop-again-2
-    (λ c. long (c .before)) returns)
+    (tie.spec Inv-loop μ-loop (λ c κs. search needs) (λ c κs. search needs)
+    (λ c. fits-under _ _ 512 (under (highest c .2)) tt) (λ c. collected-none _ _ _)
+    (λ c. fits-under _ _ 512 (turn c .low) tt) (λ c. fits-under _ _ 2048 (turn c .place) tt) (λ c. turn c .low)
+    (λ c. fits-under _ _ 2048 (turn (c .before) .place) tt) (λ c. turn (c .before) .low)
+    (λ c. fits-under _ _ 512 (turn (taking c) .low) tt) (λ c. fits-under _ _ 2048 (turn (taking c) .free-place) tt)
+    slice-write-items (λ c. fits-under _ _ 513 (turn (taking c) .few) tt) (λ c. turn (taking c) .falls) loop-again
+    (λ c. turn (c .before .before .before) .falls) loop-again-2 (λ c. long (c .before)) returns)

@@ -1,71 +1,56 @@
--- `store_pairs` meets its contract. The loop's invariant: the front of `ring` holds the pairs of the places from `from`
--- to i - 1, the rest is as it was. What is left of the steps falls. A turn's two stores are `pairs-more`.
-use Prim.Native.Nat.{ℕ, _+_, _-_, _*_, _≤_}
+-- `store_pairs` meets its contract. The loop's invariant is `Stored`: the front of `ring` holds the pairs of the first i
+-- steps, the rest is as it was. What is left of the count falls. A turn is `stored-more`.
+use Prim.Native.Nat.{_-_}
 use native.Mathlib.Omega.{arith}
-use mathlib.Core.Path.{_≡_, refl, ap, _∙_}
-use mathlib.Core.List.{List}
-use lib.ListN.{length, getD, set, length-set}
+use mir.Facts.{fits-widen}
+use borrow.Author.Needs.{scaled-fits, fits-under}
 use denote.Ref.{now}
-use Rattle.lists.specs.Lists.{overlay}
-use Rattle.leftedge.specs.Ring.{pairs}
-use Rattle.leftedge.specs.RingLists.{pairs-none, pairs-more}
+use Rattle.leftedge.specs.TrailLaws.{Passed, column-fits, passed}
+use Rattle.leftedge.specs.RingLists.{Stored, PairRoom, stored-none, stored-all, stored-falls, stored-room, stored-more}
 use Rattle.leftedge.proofs.ring.store_pairs.Statement.{statement}
 use Rattle.leftedge.proofs.ring.store_pairs.Tie as tie
 
 abbrev Inv-loop : tie.InvT-loop
-Inv-loop trail columns from steps ring₀ i₀ ring i =
-    (from ≤ i) × (i ≤ steps) × (length ring ≡ length ring₀) × (ring ≡ overlay (pairs columns trail from i) ring₀)
+Inv-loop bot columns count ring₀ n₀ i₀ ring n i = Stored bot columns n₀ count ring₀ ring n i
 
 abbrev μ-loop : tie.MeasureT-loop
-μ-loop trail columns from steps ring₀ i₀ ring i = steps - i
+μ-loop bot columns count ring₀ n₀ i₀ ring n i = count - i
 
-loop-holds : tie.Need-loop-holds Inv-loop μ-loop
-loop-holds c =
-    let a = c .args in
-    (omega arith, omega arith, refl, pairs-none (now (a .columns)) (now (a .trail)) (a .from) (a .from) (now (a .ring)))
+abbrev At : Type 0
+At = tie.At-loop Inv-loop μ-loop
 
-cast-ring : tie.Need-cast-ring Inv-loop μ-loop
-cast-ring c =
-    omega (arith, c .before .before .before .pre .4 (c .before .before .loop .i) (c .before .loop-test .taken))
+abbrev In : Type 0
+In = tie.In-loop Inv-loop μ-loop
 
-mul-ring-3 : tie.Need-mul-ring-3 Inv-loop μ-loop
-mul-ring-3 c =
-    omega (arith, c .before .before .before .pre .4 (c .before .before .loop .i) (c .before .loop-test .taken))
+-- the net is one of those that the walk never leaves, and its pair has room
+known : (t : At) → Passed (now (t .before .args .bot)) (now (t .before .args .columns)) (t .loop .n)
+known t = passed (t .before .pre .0) (t .loop .i) (t .loop .inv .here)
 
-element-copy-out-ring : tie.Need-element-copy-out-ring Inv-loop μ-loop
-element-copy-out-ring c =
-    omega (arith, c .before .before .before .pre .4 (c .before .before .loop .i) (c .before .loop-test .taken))
-
-slice-write-ring-2 : tie.Need-slice-write-ring-2 Inv-loop μ-loop
-slice-write-ring-2 c = simp length-set (omega arith)
+room : (c : In) → PairRoom (c .before .loop .ring) (c .before .loop .n) (c .before .loop .i)
+room c =
+    let p = c .before .before .pre in
+    stored-room (c .before .loop .inv) (c .loop-test .taken) (p .1) (p .2)
 
 loop-again : tie.Need-loop-again Inv-loop μ-loop
 loop-again c =
-    let at-loop = c .before .before .before in
-    let a = at-loop .before .args in
-    let i = at-loop .loop .i in
-    let f = a .from in
-    let n = getD (now (a .trail)) i 0 in (
-      omega arith,
-      omega arith,
-      simp length-set (at-loop .loop .inv .2),
-      ap (λ (l : List ℕ). set (set l (2 * (i - f)) n) (2 * (i - f) + 1) (getD (now (a .columns)) n 0))
-          (at-loop .loop .inv .3)
-          ∙ pairs-more (now (a .columns)) (now (a .trail)) f i (now (a .ring)) (at-loop .loop .inv .0) (omega arith)
-          (omega arith),
-    )
-
-returns : tie.Need-returns Inv-loop μ-loop
-returns c =
-    let a = c .before .before .args in
-    let end : c .before .loop .i ≡ a .steps = omega arith in
-    c .before .loop .inv .3 ∙ ap (λ (i : ℕ). overlay (pairs (now (a .columns)) (now (a .trail)) (a .from) i)
-    (now (a .ring))) end
+    let i = c .before .before in
+    let t = i .before in
+    let p = t .before .pre in
+    stored-more (t .loop .inv) (i .loop-test .taken) (p .1) (p .2) (known t .down)
 
 pub store-pairs-spec : {M : Type 1} → statement M
 store-pairs-spec =
     tie.close
-    (tie.spec Inv-loop μ-loop loop-holds (λ c. omega arith) (λ c. omega arith) (λ c. omega arith) (λ c. omega arith)
-    (λ c. omega arith) (λ c. omega arith) cast-ring mul-ring-3 element-copy-out-ring (λ c. omega arith)
-    (λ c. omega arith) (λ c. omega arith) (λ c. omega arith) slice-write-ring-2 (λ c. omega arith) (λ c. omega arith)
-    loop-again (λ c. omega arith) returns)
+    (tie.spec Inv-loop μ-loop (λ c. stored-none) (λ c. omega (arith, room c))
+    (λ c. fits-under _ _ 4294967296 (room c .twice) tt) (λ c. fits-under _ _ 4294967296 (known (c .before) .small) tt)
+    (λ c. fits-under _ _ 4294967296 (known (c .before) .scaled) tt) (λ c. known (c .before) .low)
+    (λ c. fits-under _ _ 4294967296 (room (c .before) .scaled) tt) (λ c. room (c .before) .put)
+    (λ c. fits-under _ _ 4294967296 (room (c .before) .next) tt)
+    (λ c. fits-under _ _ 4294967296 (room (c .before) .nextScaled) tt) (λ c. room (c .before) .putNext)
+    (λ c. let t = c .before .before in
+    fits-under _ _ 9223372036854775808 (column-fits (known t) (t .before .good .0 .1)) tt) (λ c. known (c .before .before) .first)
+    (λ c. let t = c .before .before in scaled-fits _ _ 4 (known t .last) (t .before .good .0 .1))
+    (λ c. known (c .before .before .before) .last)
+    (λ c. fits-under _ _ 4294967296 (room (c .before .before) .small) tt)
+    (λ c. stored-falls (c .before .before .before .loop .inv) (c .before .before .loop-test .taken)) loop-again
+    (λ c. c .before .loop .inv .long) (λ c. stored-all (c .before .loop .inv) (c .loop-test .left)))

@@ -1,121 +1,50 @@
--- `walk_down` meets its contract. The loop's invariant is `Trail`: the nets met are the front of `trail`, different,
--- and `visits` has the place of each. The trail's nets are among those that the walk never leaves, so they are at most
--- 511, and 512 less the steps falls. A turn is `trail-step`.
-use Prim.Native.Nat.{ℕ, _-_, _≤_, _<_}
+-- `walk_down` meets its contract. The loop's invariant is `Walks`: the nets met are different, and `visits` has the place
+-- of each. They are among those that the walk never leaves, so they are at most 511, and 513 less the mark falls. A turn
+-- is `walk-step`; where the net has a mark, the walk closes (`walk-closed`).
+use Prim.Native.Nat.{_-_}
 use native.Mathlib.Omega.{arith}
-use mathlib.Core.List.{List}
-use lib.ListN.{length, getD}
+use mir.Facts.{fits-widen}
+use borrow.Author.Needs.{scaled-fits, fits-under}
 use denote.Ref.{now}
-use Rattle.leftedge.specs.Ring.{netBelow, Trail}
-use Rattle.leftedge.specs.TrailLaws.{trail-start, trail-low, trail-short, trail-column, trail-step}
+use Rattle.leftedge.specs.TrailLaws.{Passed, column-fits, Walks, walk-starts, start-small, walk-passed, walk-counts, walk-falls}
+use Rattle.leftedge.specs.TrailLaws.{walk-step, walk-closed}
 use Rattle.leftedge.proofs.ring.walk_down.Statement.{statement}
 use Rattle.leftedge.proofs.ring.walk_down.Tie as tie
 
 abbrev Inv-loop : tie.InvT-loop
-Inv-loop bot columns trail₀ visits₀ n₀ steps₀ trail visits n steps =
-    Trail (netBelow bot columns) n₀ trail visits n steps
+Inv-loop bot columns visits₀ n₀ mark₀ visits n mark = Walks bot columns n₀ visits n mark
 
 abbrev μ-loop : tie.MeasureT-loop
-μ-loop bot columns trail₀ visits₀ n₀ steps₀ trail visits n steps = 512 - steps
+μ-loop bot columns visits₀ n₀ mark₀ visits n mark = 513 - mark
 
-loop-holds : tie.Need-loop-holds Inv-loop μ-loop
-loop-holds c =
-    trail-start (netBelow (now (c .args .bot)) (now (c .args .columns))) (c .args .start .0) (now (c .args .trail))
-    (now (c .args .visits)) (c .pre .1) (c .pre .2)
+abbrev At : Type 0
+At = tie.At-loop Inv-loop μ-loop
 
 -- the net is one of those that the walk never leaves
-record Known (bot columns : List ℕ) (n steps : ℕ) : Type 0 where
-  low : n < 512
-  short : steps ≤ 511
-  first : 1 ≤ getD columns n 0
-  last : getD columns n 0 ≤ length bot
-
-known : (c : tie.At-loop Inv-loop μ-loop) → Known (now (c .before .args .bot)) (now (c .before .args .columns))
-    (c .loop .n) (c .loop .steps)
-known c =
-    let a = c .before .args in
-    let l = c .loop in
-    let p = c .before .pre .0 in
-    let column = trail-column (now (a .bot)) (now (a .columns)) (a .start .0) (p .0) (p .1) (l .trail) (l .visits)
-    (l .n) (l .steps) (l .inv) in
-    record {
-      low = trail-low (now (a .bot)) (now (a .columns)) (a .start .0) (p .0) (p .1) (l .trail) (l .visits) (l .n)
-          (l .steps) (l .inv);
-      short = trail-short (now (a .bot)) (now (a .columns)) (a .start .0) (p .0) (p .1) (l .trail)
-          (l .visits) (l .n) (l .steps) (l .inv);
-      first = column .0;
-      last = column .1;
-    }
-
-cast-if1 : tie.Need-cast-if1 Inv-loop μ-loop
-cast-if1 c = omega (arith, known c)
-
-mul-if1 : tie.Need-mul-if1 Inv-loop μ-loop
-mul-if1 c = omega (arith, known c)
-
-element-copy-out-if1 : tie.Need-element-copy-out-if1 Inv-loop μ-loop
-element-copy-out-if1 c = omega (arith, known c)
-
-mul-trail : tie.Need-mul-trail Inv-loop μ-loop
-mul-trail c = omega (arith, known (c .before .before))
-
-element-write-trail : tie.Need-element-write-trail Inv-loop μ-loop
-element-write-trail c = omega (arith, known (c .before .before))
-
-add-steps : tie.Need-add-steps Inv-loop μ-loop
-add-steps c = omega (arith, known (c .before .before))
-
-cast-visits : tie.Need-cast-visits Inv-loop μ-loop
-cast-visits c = omega (arith, known (c .before .before))
-
-cast-visits-2 : tie.Need-cast-visits-2 Inv-loop μ-loop
-cast-visits-2 c = omega (arith, known (c .before .before))
-
-mul-visits : tie.Need-mul-visits Inv-loop μ-loop
-mul-visits c = omega (arith, known (c .before .before))
-
-element-write-visits : tie.Need-element-write-visits Inv-loop μ-loop
-element-write-visits c = omega (arith, known (c .before .before))
-
-cast-n : tie.Need-cast-n Inv-loop μ-loop
-cast-n c = omega (arith, known (c .before .before))
-
-mul-n : tie.Need-mul-n Inv-loop μ-loop
-mul-n c = omega (arith, known (c .before .before))
-
-element-copy-out-n : tie.Need-element-copy-out-n Inv-loop μ-loop
-element-copy-out-n c = omega (arith, known (c .before .before))
-
-cast-n-2 : tie.Need-cast-n-2 Inv-loop μ-loop
-cast-n-2 c = omega (arith, known (c .before .before .before))
-
-sub-n : tie.Need-sub-n Inv-loop μ-loop
-sub-n c = omega (arith, known (c .before .before .before))
-
-mul-n-2 : tie.Need-mul-n-2 Inv-loop μ-loop
-mul-n-2 c = omega (arith, known (c .before .before .before))
-
-shared-slice-read-n : tie.Need-shared-slice-read-n Inv-loop μ-loop
-shared-slice-read-n c = omega (arith, known (c .before .before .before .before))
-
-loop-less : tie.Need-loop-less Inv-loop μ-loop
-loop-less c = omega (arith, known (c .before .before .before .before))
-
-loop-again : tie.Need-loop-again Inv-loop μ-loop
-loop-again c =
-    let at-loop = c .before .before .before .before in
-    let a = at-loop .before .args in
-    let l = at-loop .loop in
-    let p = at-loop .before .pre .0 in
-    trail-step (now (a .bot)) (now (a .columns)) (a .start .0) (p .0) (p .1) (l .trail) (l .visits) (l .n) (l .steps)
-    (l .inv) (c .before .before .if1 .taken)
+known : (t : At) → Passed (now (t .before .before .args .bot)) (now (t .before .before .args .columns)) (t .loop .n)
+known t = walk-passed (t .before .before .pre) (t .loop .inv)
 
 returns : tie.Need-returns Inv-loop μ-loop
-returns c = (c .before .before .loop .inv, c .if1 .left)
+returns c =
+    let t = c .before in
+    walk-closed (t .before .before .pre) (t .loop .inv) (c .loop-test .left) .0
 
 pub walk-down-spec : {M : Type 1} → statement M
 walk-down-spec =
     tie.close
-    (tie.spec Inv-loop μ-loop loop-holds cast-if1 mul-if1 element-copy-out-if1 mul-trail element-write-trail add-steps
-    cast-visits cast-visits-2 mul-visits element-write-visits cast-n mul-n element-copy-out-n cast-n-2 sub-n mul-n-2
-    shared-slice-read-n loop-less loop-again returns)
+    (tie.spec Inv-loop μ-loop (λ c. fits-under _ _ 4294967296 (start-small (c .before .pre)) tt) (λ c. walk-starts)
+    (λ c. fits-under _ _ 4294967296 (known c .scaled) tt) (λ c. known c .low)
+    (λ c. fits-under _ _ 4294967296 (known (c .before) .scaled) tt) (λ c. known (c .before) .low)
+    (λ c. fits-under _ _ 4294967296 (walk-counts (c .before .before .before .pre) (c .before .loop .inv)) tt)
+    (λ c. fits-under _ _ 4294967296 (known (c .before) .scaled) tt) (λ c. known (c .before) .low)
+    (λ c. let t = c .before .before in
+    fits-under _ _ 9223372036854775808 (column-fits (known t) (t .before .before .good .0 .1)) tt) (λ c. known (c .before .before) .first)
+    (λ c. let t = c .before .before in scaled-fits _ _ 4 (known t .last) (t .before .before .good .0 .1))
+    (λ c. known (c .before .before .before) .last)
+    (λ c. fits-widen tt (c .shared-slice-known .given _))
+    (λ c. let t = c .before .before .before in walk-falls (t .before .before .pre) (t .loop .inv))
+    (λ c. let t = c .before .before .before in
+    walk-step (t .before .before .pre) (t .loop .inv) (c .before .before .loop-test .taken))
+    (λ c. fits-under _ _ 4294967296 (known (c .before) .small) tt)
+    (λ c. fits-under _ _ 4294967296 (known (c .before) .scaled) tt) (λ c. known (c .before) .low)
+    (λ c. walk-closed (c .before .before .before .pre) (c .before .loop .inv) (c .loop-test .left) .1) returns)

@@ -14,19 +14,19 @@ use Rattle.leftedge.proofs.tracks.fill_items.Statement.{statement}
 use Rattle.leftedge.proofs.tracks.fill_items.Tie as tie
 
 abbrev Inv-loop : tie.InvT-loop
-Inv-loop first last upper head next under₀ left₀ count tracks₀ rest₀ done₀ under left tracks rest done =
-    ((it : Items) → FillBegins it first last upper head next under₀ left₀ count tracks₀
+Inv-loop first last nets upper head next under₀ left₀ count tracks₀ rest₀ done₀ under left tracks rest done =
+    ((it : Items) → FillBegins it first last nets upper head next under₀ left₀ count tracks₀
     → Underway it under left tracks rest done) × (length under ≡ length under₀) × (length left ≡ length left₀)
     × (length tracks ≡ length tracks₀)
 
 abbrev μ-loop : tie.MeasureT-loop
-μ-loop first last upper head next under₀ left₀ count tracks₀ rest₀ done₀ under left tracks rest done = rest
+μ-loop first last nets upper head next under₀ left₀ count tracks₀ rest₀ done₀ under left tracks rest done = rest
 
 abbrev At : Type 0
 At = tie.At-loop Inv-loop μ-loop
 
 abbrev start : At → tie.Start Inv-loop μ-loop
-start t = t .before .before .before .before .before .before .before .before .before
+start t = t .before .before .before .before .before .before .before .before .before .before
 
 small : (t : At) → t .loop .done + t .loop .rest < 4294967296
 small t = few (start t .pre .begins) (t .loop .inv .0 (start t .pre .it) (start t .pre .begins))
@@ -60,11 +60,12 @@ loop-less c =
 loop-again : tie.Need-loop-again Inv-loop μ-loop
 loop-again c =
     let a = before (c .before) in
-    let i = turn a .before .loop .inv .0 in (
-      λ it b. track-filled b (i it b) (a .scan-track .ensures it) (turn a .if1 .left) (c .if2 .left),
-      search needs,
-      search needs,
-      search needs,
+    let i = turn a .before .loop .inv in
+    let kept = a .scan-track .kept in (
+      λ it b. track-filled b (i .0 it b) (a .scan-track .ensures it) (turn a .if1 .left) (c .if2 .left),
+      rw (kept .1 .1 .1 .1 .1 .1 .0) (i .1),
+      rw (kept .1 .1 .1 .1 .1 .1 .1 .0) (i .2),
+      rw (kept .1 .1 .1 .1 .1 .1 .1 .1 .1 .0) (i .3),
     )
 
 returns : tie.Need-returns Inv-loop μ-loop
@@ -80,5 +81,8 @@ fill-items-spec =
     tie.close
     (tie.spec Inv-loop μ-loop loop-holds (λ c. omega (arith, small (c .before .before .before .before)))
     scan-track-requires (λ c. omega (arith, small (turn (before (c .before)) .before))) loop-less loop-again
-    (λ c. search needs) (λ c. search needs) (λ c. search needs) returns (λ c. search needs) (λ c. search needs)
-    (λ c. search needs) returns-2)
+    (λ c. c .before .loop .inv .1) (λ c. c .before .loop .inv .2) (λ c. c .before .loop .inv .3) returns
+    (λ c. let a = before (c .before) in rw (a .scan-track .kept .1 .1 .1 .1 .1 .1 .0) (turn a .before .loop .inv .1))
+    (λ c. let a = before (c .before) in rw (a .scan-track .kept .1 .1 .1 .1 .1 .1 .1 .0) (turn a .before .loop .inv .2))
+    (λ c. let a = before (c .before) in rw (a .scan-track .kept .1 .1 .1 .1 .1 .1 .1 .1 .1 .0) (turn a .before .loop .inv .3))
+    returns-2)
