@@ -31,6 +31,12 @@ static void count_pins(const uint32_t *row, size_t width, uint32_t counts[PLAIN_
         counts[row[i]]++;
 }
 
+static void count_rows(const struct plain_rows *rows, uint32_t counts[PLAIN_NETS])
+{
+    count_pins(rows->top, rows->width, counts);
+    count_pins(rows->bot, rows->width, counts);
+}
+
 /* A number of a row is counted just once. */
 static bool any_once(const uint32_t *row, size_t width, const uint32_t counts[PLAIN_NETS])
 {
@@ -43,8 +49,7 @@ static bool any_once(const uint32_t *row, size_t width, const uint32_t counts[PL
 bool plain_has_parked(const struct plain_rows *rows)
 {
     uint32_t counts[PLAIN_NETS] = {0};
-    count_pins(rows->top, rows->width, counts);
-    count_pins(rows->bot, rows->width, counts);
+    count_rows(rows, counts);
     counts[0] = 0;
     return any_once(rows->top, rows->width, counts) || any_once(rows->bot, rows->width, counts);
 }
@@ -59,8 +64,7 @@ static void copy_nets(const uint32_t *row, size_t width, const uint32_t counts[P
 struct plain_rows plain_leave_parked(const struct plain_rows *rows, struct plain_copy *copy)
 {
     uint32_t counts[PLAIN_NETS] = {0};
-    count_pins(rows->top, rows->width, counts);
-    count_pins(rows->bot, rows->width, counts);
+    count_rows(rows, counts);
     copy_nets(rows->top, rows->width, counts, copy->top);
     copy_nets(rows->bot, rows->width, counts, copy->bot);
     return (struct plain_rows){copy->top, copy->bot, rows->width};

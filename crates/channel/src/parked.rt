@@ -1,7 +1,7 @@
 // The parked pins of a channel removed, so that what follows works on rows that show nets only.
 ghost use mathlib.Core.Path.{_≡_};
 ghost use Prim.Native.Nat.{ℕ, _≤_, _<_};
-ghost use lib.ListN.{length, getD};
+ghost use lib.ListN.{length, getD, replicate};
 ghost use Rattle.lists.specs.Lists.{overlay, anyOf};
 ghost use Rattle.lists.specs.Counts.{tally};
 ghost use Rattle.channel.specs.Channel.{rows, widest};
@@ -23,6 +23,15 @@ fn count_pins(row: &[u32], counts: &mut [u32; NET_SLOTS])
         counts[n] += 1;
         i += 1;
     }
+}
+
+// Counts the pins of each number of a channel that escapes refusals 3 to 5, in counts that begin at 0.
+fn count_rows(top: &[u32], bot: &[u32], counts: &mut [u32; NET_SLOTS])
+    requires { ⌜ Escapes (rows (now top) (now bot)) × (now counts ≡ replicate 512 0) ⌝ }
+    ensures { λ _. ⌜ now (counts .exit) ≡ tally (now (bot .entry)) (tally (now (top .entry)) (now (counts .entry))) ⌝ }
+{
+    count_pins(top, counts);
+    count_pins(bot, counts);
 }
 
 // Some number of a row is counted just once.
@@ -47,8 +56,7 @@ pub fn has_parked(top: &[u32], bot: &[u32]) -> bool
     ensures { λ r. ⌜ r ≡ hasParked (rows (now (top .entry)) (now (bot .entry))) ⌝ }
 {
     let mut counts = [0u32; NET_SLOTS];
-    count_pins(top, &mut counts);
-    count_pins(bot, &mut counts);
+    count_rows(top, bot, &mut counts);
     // a place without a pin is not parked
     counts[0] = 0;
     any_once(top, &counts) || any_once(bot, &counts)
@@ -79,8 +87,7 @@ pub fn remove_parked(top: &[u32], bot: &[u32], upper: &mut [u32; WIDEST], lower:
         (now (upper .exit)) (now (lower .exit)) ⌝ }
 {
     let mut counts = [0u32; NET_SLOTS];
-    count_pins(top, &mut counts);
-    count_pins(bot, &mut counts);
+    count_rows(top, bot, &mut counts);
     keep_nets(top, &counts, upper);
     keep_nets(bot, &counts, lower);
 }

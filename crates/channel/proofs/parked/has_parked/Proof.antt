@@ -1,17 +1,15 @@
 -- `channel::parked::has_parked` meets its contract: the counts are those of both rows, counted from nothing, with none
 -- for 0, by which some pin is parked exactly if a number of the rows is counted just once (`parked-told`).
-use Prim.Native.Nat.{ℕ, _≤_}
-use native.Mathlib.Omega.{arith}
-use mathlib.Core.Path.{_≡_, sym, _∙_, ap, subst}
+use Prim.Native.Nat.{ℕ}
+use mathlib.Core.Path.{_≡_, refl, sym, _∙_, ap}
 use mathlib.Core.List.{List}
 use mathlib.Core.Bool.{Bool, _||_}
 use borrow.Author.Needs.{needs}
-use lib.ListN.{getD, set}
+use lib.ListN.{set}
 use Rattle.lists.specs.Lists.{anyOf}
-use Rattle.lists.specs.Counts.{tally}
 use Rattle.channel.specs.Channel.{Channel, rows}
 use Rattle.channel.specs.Rows.{once}
-use Rattle.channel.specs.RowLaws.{zeros, zeros-within, counts-within}
+use Rattle.channel.specs.RowLaws.{zeros}
 use Rattle.channel.specs.RemoveLaws.{top-within, bot-within, counted}
 use Rattle.channel.specs.OnceLaws.{pins, parked-told}
 use Rattle.channel.proofs.parked.has_parked.Statement.{statement}
@@ -20,34 +18,15 @@ use Rattle.channel.proofs.parked.has_parked.Tie as tie
 abbrev channel : tie.Start → Channel
 channel c = rows (c .args .top .now) (c .args .bot .now)
 
-count-pins-requires : tie.Need-count-pins-requires
+count-rows-requires : tie.Need-count-rows-requires
+count-rows-requires c κs = (c .before .before .before .pre, refl)
+
+abbrev start : tie.After-count-rows → tie.Start
+start c = c .before .before .before .before
+
+both-counted : (c : tie.After-count-rows) → c .count-rows .last .1 .1 .0 ≡ counted (channel (start c)) (start c .pre)
 unfolding zeros
-count-pins-requires c κs =
-    let esc = c .before .before .before .pre in (top-within _ esc, esc .narrow, zeros-within)
-
--- what is counted after each row
-top-counted : (c : tie.After-count-pins)
-    → c .count-pins .last .1 .0 ≡ tally (channel (c .before .before .before .before) .top) zeros
-unfolding zeros
-top-counted c = c .count-pins .ensures
-
-count-pins-requires-2 : tie.Need-count-pins-requires-2
-count-pins-requires-2 c κs =
-    let start = c .before .before .before .before .before in
-    let esc = start .pre in (
-      bot-within _ esc,
-      omega (arith, esc .narrow, esc .even),
-      λ n h.
-          subst (λ (k : List ℕ). getD k n 0 ≤ 512) (sym (top-counted (c .before)))
-          (let w = counts-within _ (top-within (channel start) esc) n h in let t = esc .narrow in omega arith),
-    )
-
-abbrev start : tie.After-count-pins2 → tie.Start
-start c = c .before .before .before .before .before .before
-
-both-counted : (c : tie.After-count-pins2)
-    → c .count-pins2 .last .1 .0 ≡ counted (channel (start c)) (start c .pre)
-both-counted c = c .count-pins2 .ensures ∙ ap (tally _) (top-counted (c .before .before))
+both-counted c = c .count-rows .ensures
 
 any-once-requires : tie.Need-any-once-requires
 any-once-requires c κs = top-within _ (start (c .before) .pre)
@@ -56,12 +35,12 @@ any-once-requires-2 : tie.Need-any-once-requires-2
 any-once-requires-2 c κs = bot-within _ (start (c .before .before .before .before) .pre)
 
 -- whether a number of a row is parked, by the counts that are left
-told : (c : tie.After-count-pins2) (row : List ℕ) → anyOf (once (set (c .count-pins2 .last .1 .0) 0 0)) row
+told : (c : tie.After-count-rows) (row : List ℕ) → anyOf (once (set (c .count-rows .last .1 .1 .0) 0 0)) row
     ≡ anyOf (once (pins (channel (start c)) (start c .pre))) row
 told c row = ap (λ (l : List ℕ). anyOf (once (set l 0 0)) row) (both-counted c)
 
 -- whether a number of BOT is parked
-abbrev below : tie.After-count-pins2 → Bool
+abbrev below : tie.After-count-rows → Bool
 below p = anyOf (once (pins (channel (start p)) (start p .pre))) (channel (start p) .bot)
 
 returns : tie.Need-returns
@@ -82,5 +61,5 @@ returns-2 c =
 pub has-parked-spec : {M : Type 1} → statement M
 has-parked-spec =
     tie.close
-    (tie.spec count-pins-requires count-pins-requires-2 (λ c. search needs) any-once-requires any-once-requires-2 returns
+    (tie.spec count-rows-requires (λ c. search needs) any-once-requires any-once-requires-2 returns
     returns-2)
