@@ -21,19 +21,34 @@ static inline uint32_t net_of(const struct parts *parts, uint32_t n)
     return n < parts->count ? parts->nets[n] : n;
 }
 
+/* The fill's own copy of the first and the last column of each net, in half the width: no column passes 512. */
+struct columns {
+    uint16_t first[PLAIN_NETS], last[PLAIN_NETS];
+};
+
+static void copy_columns(const struct plain_spans *spans, struct columns *columns)
+{
+    for (size_t n = 0; n < PLAIN_NETS; n++) {
+        columns->first[n] = (uint16_t)spans->first[n];
+        columns->last[n] = (uint16_t)spans->last[n];
+    }
+}
+
 /* One scan of the nets left for track k: those placed get the track, the others move to the front. Answers how many
  * are left. */
-static size_t scan_track(const struct plain_rows *rows, const struct plain_spans *spans, const struct parts *parts,
+static size_t scan_track(const struct plain_rows *rows, const struct columns *columns, const struct parts *parts,
                          struct plain_steps *steps, uint32_t left[PLAIN_NETS], size_t count,
                          uint32_t tracks[PLAIN_NETS], uint32_t k)
 {
-    uint32_t end = 0, net = 0; /* of the item placed before */
+    uint16_t end = 0; /* the last column of the item placed before, and its net */
+    uint32_t net = 0;
     size_t rest = 0;
     for (size_t i = 0; i < count; i++) {
-        uint32_t n = left[i], start = spans->first[n];
+        uint32_t n = left[i];
+        uint16_t start = columns->first[n];
         if (steps->under[n] == 0 && (end < start || (end == start && net == net_of(parts, n)))) {
             tracks[n] = k;
-            end = spans->last[n];
+            end = columns->last[n];
             net = net_of(parts, n);
             lower_above(rows, steps, n);
         } else {
@@ -96,9 +111,11 @@ int plain_fill(const struct plain_rows *rows, const struct plain_spans *spans, u
     memset(tracks, 0, PLAIN_NETS * sizeof *tracks);
     size_t count = plain_spanning(rows, spans, left);
     plain_sort(left, count, spans->first, rows->width, steps.next);
+    struct columns columns;
+    copy_columns(spans, &columns);
     plain_link_steps(rows, &steps);
     while (count != 0) {
-        size_t rest = scan_track(rows, spans, &none, &steps, left, count, tracks, (uint32_t)done + 1);
+        size_t rest = scan_track(rows, &columns, &none, &steps, left, count, tracks, (uint32_t)done + 1);
         if (rest == count)
             return -show_ring(rows, tracks, left, count, ring);
         count = rest;

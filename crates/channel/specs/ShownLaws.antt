@@ -13,6 +13,7 @@ use Rattle.lists.specs.Tests.{T→true, fails→false, same-test, eq→T, passe
 use Rattle.lists.specs.Members.{keep-member}
 use Rattle.lists.specs.Ends.{at-map, at-inside, member-at}
 use Rattle.lists.specs.Ranges.{fails→none-kept, length-keep-map}
+use Rattle.lists.specs.Arrays.{numbered-same}
 use Rattle.lists.specs.Tallies.{keep-same}
 use Rattle.lists.specs.Updates.{map-same}
 use Rattle.channel.specs.Channel.{Channel, width, positions, pinCount, isParked, isNet, unlessParked}
@@ -22,7 +23,7 @@ use Rattle.channel.specs.Density.{Span, spansOf, density}
 use Rattle.channel.specs.Constraints.{Above, above, Drop, drops, below, depth, chain, Step, Descends, last, next}
 use Rattle.channel.specs.Constraints.{Tangled}
 use Rattle.channel.specs.Answers.{Escapes}
-use Rattle.channel.specs.Spans.{starting}
+use Rattle.channel.specs.Spans.{firsts, lasts, starting}
 use Rattle.channel.specs.Parked.{NetsOnly}
 use Rattle.channel.specs.Laws.{net-positive, net-counted, counted-net, above→, →above, PinAmong, top-holds}
 use Rattle.channel.specs.Laws.{bot-holds}
@@ -147,6 +148,12 @@ module _ (ch : Channel) where
   pub last-shown : (n : ℕ) → lastColumn shown n ≡ lastColumn ch n
   unfolding lastColumn
   last-shown n = ap (lastOr 0) (columns-shown n)
+
+  pub firsts-shown : firsts shown ≡ firsts ch
+  firsts-shown = numbered-same (firstColumn shown) (firstColumn ch) 512 (λ n below. first-shown n)
+
+  pub lasts-shown : lasts shown ≡ lasts ch
+  lasts-shown = numbered-same (lastColumn shown) (lastColumn ch) 512 (λ n below. last-shown n)
 
   pub nets-shown : nets shown ≡ nets ch
   unfolding nets

@@ -9,7 +9,7 @@ use Rattle.grid.specs.declared.Track.{Track}
 use Rattle.grid.specs.Pieces.{track}
 use Rattle.channel.specs.Channel.{Channel, spanning}
 use Rattle.channel.specs.Parked.{NetsOnly}
-use Rattle.channel.specs.Spans.{each512, firsts, lasts, SpansFound}
+use Rattle.channel.specs.Spans.{each512, SpansFound}
 use Rattle.leftedge.specs.declared.Outcome.{Outcome}
 use Rattle.leftedge.specs.declared.Outcome.the-variants.{Placed, Stuck}
 use Rattle.leftedge.specs.declared.Filled.{Filled}
@@ -18,6 +18,7 @@ use Rattle.leftedge.specs.Fill.{Filling, filled, stuck}
 use Rattle.leftedge.specs.Walk.{ringOf, ringNumbers}
 use Rattle.leftedge.specs.Nets.{fillOrder, netItems, fill}
 use Rattle.leftedge.specs.Invariants.{StuckWith}
+use Rattle.leftedge.specs.Columns.{ColumnsDue}
 
 -- how a fill ends, in numbers: the tracks, or the pairs of the ring shown
 unfoldable pub outcomeOf : Channel → Filling → Outcome
@@ -42,11 +43,11 @@ pub record FillDone (ch : Channel) (ring : List ℕ) (r : Filled) (ring′ : Lis
   pub tracks : r .tracks ≡ tracksBy (fill ch)
   pub held : ring′ ≡ ringHeld ch (fill ch) ring
 
--- where the fill of a channel's nets begins: the plain columns, and the nets in the order of the scan
+-- where the fill of a channel's nets begins: its own copy of the columns, which is shown equal to those due in the net
+-- records (02, Req 06), and the nets in the order of the scan
 pub record NetsBegin (ch : Channel) (first last left : List ℕ) (count : ℕ) (tracks : List ℕ) : Type 0 where
   pub only : NetsOnly ch
-  pub begins : first ≡ firsts ch
-  pub ends : last ≡ lasts ch
+  pub columns : ColumnsDue ch first last
   pub order : take count left ≡ fillOrder ch
   pub counted : count ≡ length (fillOrder ch)
   pub fits : count ≤ length left

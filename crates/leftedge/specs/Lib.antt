@@ -9,6 +9,8 @@ pub mod ScanLaws
 pub mod FillLaws
 pub mod WalkLaws
 pub mod SpanFill
+pub mod Columns
+pub mod ColumnLaws
 pub mod NetLaws
 pub mod NetFill
 pub mod Tables

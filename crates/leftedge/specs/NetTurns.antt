@@ -8,7 +8,7 @@ use mathlib.Core.Logic.{_↔_}
 use lib.ListN.{length, getD, take, replicate, length-take, length-replicate}
 use Rattle.lists.specs.Lists.{anyOf, overlay}
 use Rattle.lists.specs.Counts.{getD-zeros}
-use Rattle.lists.specs.Arrays.{length-map-from, getD-numbered, numbered}
+use Rattle.lists.specs.Arrays.{length-map-from, numbered-at, numbered}
 use Rattle.grid.specs.Pieces.{track}
 use Rattle.items.specs.Steps.{StepsLinked}
 use Rattle.items.specs.StepLaws.{waiting-none}
@@ -54,8 +54,8 @@ module _ {ch : Channel} {first last left tracks : List ℕ} {count : ℕ}
           starts = λ n m. let e = first-of n (low n m) in
               let s = starts-inside ch (esc .even) n (order→spanning ch n m) in omega arith;
           number = λ n m. let k = low n m in (
-            rw (b .begins) (omega (arith, length-map-from (firstColumn ch) 512)),
-            rw (b .ends) (omega (arith, length-map-from (lastColumn ch) 512)),
+            rw (b .columns .begins) (omega (arith, length-map-from (firstColumn ch) 512)),
+            rw (b .columns .ends) (omega (arith, length-map-from (lastColumn ch) 512)),
             omega arith,
           );
         };
@@ -81,10 +81,10 @@ module _ {ch : Channel} {first last left tracks : List ℕ} {count : ℕ}
       low n m = spanning-small ch .1 n (order→spanning ch n m)
 
       first-of : (n : ℕ) → n < 512 → getD first n 0 ≡ firstColumn ch n
-      first-of n k = ap (λ (l : List ℕ). getD l n 0) (b .begins) ∙ getD-numbered (firstColumn ch) 512 n k
+      first-of = numbered-at (firstColumn ch) 512 (b .columns .begins)
 
       last-of : (n : ℕ) → n < 512 → getD last n 0 ≡ lastColumn ch n
-      last-of n k = ap (λ (l : List ℕ). getD l n 0) (b .ends) ∙ getD-numbered (lastColumn ch) 512 n k
+      last-of = numbered-at (lastColumn ch) 512 (b .columns .ends)
 
 -- which fill ends so
 end-placed : (f : Filling) (t : ℕ) → ends.Placed t ≡ endOf f → (ps : List Place) × (f ≡ filled t ps)

@@ -16,7 +16,7 @@ use Rattle.lists.specs.Members.{isIn→member, member→isIn, in-upTo}
 use Rattle.lists.specs.Pigeonhole.{distinct-head, distinct-tail, pigeonhole}
 use Rattle.lists.specs.Ends.{getD-member}
 use Rattle.lists.specs.Places.{keep-keep, length-from}
-use Rattle.lists.specs.Arrays.{getD-numbered}
+use Rattle.lists.specs.Arrays.{numbered-at}
 use Rattle.channel.specs.Channel.{Channel, width}
 use Rattle.channel.specs.Constraints.{above, Drop, drops, Step, netsOf}
 use Rattle.channel.specs.Laws.{above→}
@@ -149,7 +149,7 @@ module _ (ch : Channel) (tracks left : List ℕ) (count : ℕ) (w : WalkFrom ch 
     column-kept n m =
         let low = left-net n m .low in
         first-drop-kept n ∙ sym (ap (dropIn (ch .bot))
-        (ap (λ (l : List ℕ). getD l n 0) e ∙ getD-numbered (lowestDrop ch tracks) 512 n (omega arith)))
+        (numbered-at (lowestDrop ch tracks) 512 e n (omega arith)))
 
     -- the walk never leaves the nets left
     pub left-confines : Confines (ch .bot) columns (least ls) ls

@@ -6,13 +6,13 @@ use mathlib.Core.Bool.{Bool}
 use lib.ListN.{length}
 use lib.Dec.{ltb}
 use Rattle.lists.specs.Lists.{each, upTo, overlay}
-use Rattle.lists.specs.Arrays.{numbered-same}
 use Rattle.grid.specs.Pieces.{column}
 use Rattle.channel.specs.declared.spans.Spans.{Spans}
 use Rattle.channel.specs.Channel.{Channel, width, withoutParked, firstColumn, lastColumn}
 use Rattle.channel.specs.Constraints.{Drop, drops}
 use Rattle.channel.specs.Spans.{SpansFound, starting}
-use Rattle.channel.specs.ShownLaws.{width-shown, first-shown, last-shown, starting-shown, drops-shown}
+use Rattle.channel.specs.ShownLaws.{width-shown, first-shown, last-shown, firsts-shown, lasts-shown}
+use Rattle.channel.specs.ShownLaws.{starting-shown, drops-shown}
 use Rattle.leftedge.specs.declared.Outcome.the-variants.{Stuck}
 use Rattle.leftedge.specs.declared.Filled.{Filled}
 use Rattle.leftedge.specs.Items.{Items}
@@ -57,10 +57,8 @@ module _ (ch : Channel) where
   spans-shown : {s : Spans} → SpansFound shown s → SpansFound ch s
   spans-shown h =
       record {
-        first = h .first ∙ ap (map column)
-            (numbered-same (firstColumn shown) (firstColumn ch) 512 (λ n below. first-shown ch n));
-        last = h .last ∙ ap (map column)
-            (numbered-same (lastColumn shown) (lastColumn ch) 512 (λ n below. last-shown ch n));
+        first = h .first ∙ ap (map column) (firsts-shown ch);
+        last = h .last ∙ ap (map column) (lasts-shown ch);
       }
 
   outcome-shown : (f : Filling) → outcomeOf shown f ≡ outcomeOf ch f

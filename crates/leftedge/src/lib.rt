@@ -1,4 +1,5 @@
 // Filling tracks by the constrained left-edge rule, and the ring that is shown where the fill is stuck.
+mod columns;
 mod nets;
 mod ring;
 mod tracks;

@@ -14,6 +14,7 @@ ghost use Rattle.leftedge.specs.Tables.{FillEnds};
 ghost use Rattle.leftedge.specs.Code.{FillDone, NetsBegin};
 use crate::Filled;
 use crate::Outcome;
+use crate::columns::copy_columns;
 use crate::ring::show_ring;
 use crate::tracks::FillEnd;
 use crate::tracks::fill_items;
@@ -62,8 +63,8 @@ fn net_order(
 fn fill_nets(
     top: &[u32],
     bot: &[u32],
-    first: &[u32; NET_SLOTS],
-    last: &[u32; NET_SLOTS],
+    first: &[u16; NET_SLOTS],
+    last: &[u16; NET_SLOTS],
     next: &mut [u16],
     left: &mut [u32],
     count: usize,
@@ -109,17 +110,20 @@ pub fn fill_tracks(top: &[u32], bot: &[u32], ring: &mut [u32]) -> Filled
     // links of the nets by first column, then of the steps by lower net
     let mut next = [0u16; COLUMN_SLOTS];
     let count = net_order(top, bot, &first, &last, &mut next, &mut left);
+    let spans = channel::typed_spans(first, last);
+    let mut begins = [0u16; NET_SLOTS];
+    let mut ends = [0u16; NET_SLOTS];
+    copy_columns(&first, &last, &mut begins, &mut ends);
     let end = fill_nets(
         top,
         bot,
-        &first,
-        &last,
+        &begins,
+        &ends,
         &mut next,
         &mut left,
         count,
         &mut tracks,
     );
-    let spans = channel::typed_spans(first, last);
     match end {
         FillEnd::Placed(t) => {
             let placed = typed_tracks(tracks);

@@ -1,5 +1,5 @@
-// The fill of items, track by track, over tables by item number: `first` and `last` have the columns of each item,
-// `nets` the net that it is a part of, the places of `upper` in which an item stands below are linked by `head` and
+// The fill of items, track by track, over tables by item number: `first` and `last` have the columns of each item in 16
+// bits, `nets` the net that it is a part of, the places of `upper` in which an item stands below are linked by `head` and
 // `next`, and `under` counts the steps below each item that lead to unplaced ones. At worst as many looks as items
 // times tracks.
 ghost use mathlib.Core.Path.{_≡_};
@@ -32,7 +32,7 @@ fn net_of(nets: &[u32], n: u32) -> u32
 }
 
 // Item n may follow on a track one of net `net` that ends in column `end`.
-fn may_follow(first: &[u32], nets: &[u32], n: u32, end: u32, net: u32) -> bool
+fn may_follow(first: &[u16], nets: &[u32], n: u32, end: u16, net: u32) -> bool
     requires { ⌜ n < length (now first) ⌝ }
     ensures { λ r.
         ⌜ r ≡ mayFollow end net (getD (now (first .entry)) n 0) (netAt (now (nets .entry)) n) ⌝ }
@@ -47,8 +47,8 @@ fn may_follow(first: &[u32], nets: &[u32], n: u32, end: u32, net: u32) -> bool
 // One scan of the first `count` items of `left` for track k: those placed get the track, the others move to the front
 // in their order. Answers how many are left.
 fn scan_track(
-    first: &[u32],
-    last: &[u32],
+    first: &[u16],
+    last: &[u16],
     nets: &[u32],
     upper: &[u32],
     head: &[u16],
@@ -69,7 +69,7 @@ fn scan_track(
         (now (left .exit)) (now (tracks .exit))) ⌝ }
 {
     // the last column and the net of the item placed before on this track, 0 if there is none
-    let mut end: u32 = 0;
+    let mut end: u16 = 0;
     let mut net: u32 = 0;
     let mut rest: usize = 0;
     let mut i: usize = 0;
@@ -92,8 +92,8 @@ fn scan_track(
 
 // Fills tracks with the first `count` items of `left`. Where the fill is stuck, the items left stand at the front.
 pub fn fill_items(
-    first: &[u32],
-    last: &[u32],
+    first: &[u16],
+    last: &[u16],
     nets: &[u32],
     upper: &[u32],
     head: &[u16],

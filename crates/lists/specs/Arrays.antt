@@ -34,6 +34,9 @@ length-map-from f m = length-map (from 0 m) f ∙ length-from 0 m
 pub getD-numbered : (f : ℕ → ℕ) (m n : ℕ) → n < m → getD (map f (from 0 m)) n 0 ≡ f n
 getD-numbered f m n h = getD-map-from f 0 m n h ∙ ap f (omega arith)
 
+pub numbered-at : (f : ℕ → ℕ) (m : ℕ) {xs : List ℕ} → xs ≡ map f (from 0 m) → (n : ℕ) → n < m → getD xs n 0 ≡ f n
+numbered-at f m e n h = rw e (getD-numbered f m n h)
+
 -- also where what stands there is made of the numbers
 pub getD-made : {B : Type 0} (g : ℕ → B) (f : ℕ → ℕ) (m n : ℕ) → n < m
     → getD (map g (map f (from 0 m))) n (g 0) ≡ g (f n)

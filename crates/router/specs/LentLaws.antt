@@ -161,6 +161,15 @@ pub rows-front : {ch : Channel} {ring board ring′ board′ : List ℕ} {r : Ro
 unfolding recordsAfter
 rows-front d = front _ _ _ (d .table) (d .counted)
 
+-- and of the lent table
+pub route-front : {ch : Channel} {table table′ : List NetRecord} {ring board ring′ board′ : List ℕ} {r : Routed}
+    → RouteDone ch table ring board r table′ ring′ board′
+    → take (r .count) table′
+    ≡ recordsUnless (routeRefusal (routeTraysWithRecords (length table) (length ring) (length board)) ch)
+    (recordsMade ch (fill ch))
+unfolding recordsAfter
+route-front d = front _ _ _ (d .tableHeld) (d .counted)
+
 -- the table stored at the front of the lent one
 pub lent-done : {ch : Channel} {table table′ : List NetRecord} {ring board ring′ board′ : List ℕ}
     {r : Routing} {q : Routed}

@@ -8,3 +8,4 @@ pub mod TableLaws
 pub mod Outcomes
 pub mod LentLaws
 pub mod ToldLaws
+pub mod ColumnLaws
