@@ -26,11 +26,18 @@ struct columns {
     uint16_t first[PLAIN_NETS], last[PLAIN_NETS];
 };
 
-static void copy_columns(const struct plain_spans *spans, struct columns *columns)
+static inline void copy_net(const struct plain_spans *spans, struct columns *columns, uint32_t n)
 {
-    for (size_t n = 0; n < PLAIN_NETS; n++) {
-        columns->first[n] = (uint16_t)spans->first[n];
-        columns->last[n] = (uint16_t)spans->last[n];
+    columns->first[n] = (uint16_t)spans->first[n];
+    columns->last[n] = (uint16_t)spans->last[n];
+}
+
+static void copy_columns(const struct plain_rows *rows, const struct plain_spans *spans, struct columns *columns)
+{
+    memset(columns, 0, sizeof *columns);
+    for (size_t i = 0; i < rows->width; i++) {
+        copy_net(spans, columns, rows->top[i]);
+        copy_net(spans, columns, rows->bot[i]);
     }
 }
 
@@ -112,7 +119,7 @@ int plain_fill(const struct plain_rows *rows, const struct plain_spans *spans, u
     size_t count = plain_spanning(rows, spans, left);
     plain_sort(left, count, spans->first, rows->width, steps.next);
     struct columns columns;
-    copy_columns(spans, &columns);
+    copy_columns(rows, spans, &columns);
     plain_link_steps(rows, &steps);
     while (count != 0) {
         size_t rest = scan_track(rows, &columns, &none, &steps, left, count, tracks, (uint32_t)done + 1);

@@ -1,21 +1,29 @@
--- The fill's own copy of the columns: no column passes 512, so that 16 bits hold it; and a copy of the columns found has
--- those of each net record, with the channel's parked pins removed or not.
-use Prim.Native.Nat.{ℕ, _≤_}
+-- The fill's own copy of the columns: none passes 512, so that 16 bits hold it; going over the rows' pins copies those of
+-- all nets; and a copy of the columns found has those of each net record, with the parked pins removed or not.
+use Prim.Native.Nat.{ℕ, _+_, _≤_, _<_}
 use native.Mathlib.Omega.{arith}
+use native.Mathlib.Decide.{decLe}
 use mathlib.Core.Path.{_≡_, refl, sym, _∙_, ap, subst}
 use mathlib.Core.List.{List, [], _∷_, List·Memᴰ, List·Memᴰ·head, Memᴰ·of-map}
-use Rattle.lists.specs.Lists.{headOr, lastOr, from}
+use mathlib.Core.Logic.{_⊎_, inl, inr, ⊎-elim}
+use lib.ListN.{length, getD, set, replicate, length-set, length-replicate}
+use lib.Seq.{getD-set-same, getD-set-other}
+use lib.Dec.{T}
+use Rattle.lists.specs.Lists.{headOr, lastOr, at}
+use Rattle.lists.specs.Tests.{passes?, equal?}
+use Rattle.lists.specs.Counts.{getD-zeros}
 use Rattle.lists.specs.Ends.{last-member}
-use Rattle.lists.specs.Arrays.{length-map-from, numbered-at}
-use Rattle.channel.specs.Channel.{Channel, width, widest, pinColumns, firstColumn, lastColumn, nets, withoutParked}
-use Rattle.channel.specs.Laws.{pin-column}
+use Rattle.lists.specs.Arrays.{numbered, numbered-at}
+use Rattle.channel.specs.Channel.{Channel, width, pinColumns, firstColumn, lastColumn, isNet, nets, withoutParked}
+use Rattle.channel.specs.Laws.{pin-column, net→pin}
+use Rattle.channel.specs.ParkedLaws.{no-first, no-last}
 use Rattle.channel.specs.SpanLaws.{nets→}
 use Rattle.channel.specs.Spans.{each512, firsts, lasts}
 use Rattle.channel.specs.ShownLaws.{firsts-shown, lasts-shown}
 use Rattle.leftedge.specs.declared.NetRecord.{NetRecord}
 use Rattle.leftedge.specs.Items.{Place}
 use Rattle.leftedge.specs.Nets.{recordOf, records}
-use Rattle.leftedge.specs.Columns.{NonePasses512, CopiedFor, ColumnsDue}
+use Rattle.leftedge.specs.Columns.{CopiedFor, ColumnsDue}
 
 -- the ends of columns that are all inside are inside
 ends-inside : (w : ℕ) (cs : List ℕ) → ((c : ℕ) → List·Memᴰ c cs → c ≤ w) → (headOr 0 cs ≤ w) × (lastOr 0 cs ≤ w)
@@ -24,26 +32,69 @@ ends-inside w [] h = (omega arith, omega arith)
 ends-inside w (c ∷ cs) h =
     (h c (List·Memᴰ·head refl), h (lastOr 0 (c ∷ cs)) (last-member 0 {x = c} (List·Memᴰ·head refl)))
 
+-- "none passes 512", nor the width
+pub columns-inside : (ch : Channel) (n : ℕ) → (firstColumn ch n ≤ width ch) × (lastColumn ch n ≤ width ch)
+unfolding firstColumn lastColumn
+columns-inside ch n = ends-inside (width ch) (pinColumns ch n) (λ c m. pin-column ch n c m .last)
+
+-- of the first i columns none has a pin of number n
+abbrev pub Unseen : Channel → ℕ → ℕ → Type 0
+Unseen ch i n = (c : ℕ) → 1 ≤ c → c ≤ i → (at (ch .top) c ≡ n) ⊎ (at (ch .bot) c ≡ n) → ⊥
+
+-- a table by number into which what f gives is copied for the numbers of the first i columns, and that has 0 for others
+pub record CopiedTo (ch : Channel) (f : ℕ → ℕ) (i : ℕ) (t : List ℕ) : Type 0 where
+  pub long : length t ≡ 512
+  pub each : (n : ℕ) → n < 512 → (getD t n 0 ≡ f n) ⊎ ((getD t n 0 ≡ 0) × Unseen ch i n)
+
+pub copied-none : (ch : Channel) (f : ℕ → ℕ) {t : List ℕ} → t ≡ replicate 512 0 → CopiedTo ch f 0 t
+copied-none ch f e =
+    record {
+      long = rw e (length-replicate {A = ℕ} 512 0);
+      each = λ n below. inr (rw e (getD-zeros 512 n), λ c h k pin. absurd (omega arith));
+    }
+
+-- a store of what f gives for number a
+stored : (f : ℕ → ℕ) (t : List ℕ) (a n : ℕ) → a < length t
+    → (getD (set t a (f a)) n 0 ≡ f n) ⊎ ((n ≡ a → ⊥) × (getD (set t a (f a)) n 0 ≡ getD t n 0))
+stored f t a n inside =
+    ⊎-elim (λ e. inl (rw e (getD-set-same t a (f a) 0 inside))) (λ o. inr (o, getD-set-other t a n (f a) 0 o))
+    (equal? n a)
+
+-- a further column, with number a above and b below
+pub copied-next : {ch : Channel} (f : ℕ → ℕ) (i : ℕ) {t : List ℕ} → CopiedTo ch f i t → (a b : ℕ) → a < 512 → b < 512
+    → at (ch .top) (i + 1) ≡ a → at (ch .bot) (i + 1) ≡ b → CopiedTo ch f (i + 1) (set (set t a (f a)) b (f b))
+copied-next {ch} f i {t} h a b low-a low-b upper lower =
+    record { long = length-set (set t a (f a)) b (f b) ∙ once; each = each }
+  where
+    once : length (set t a (f a)) ≡ 512
+    once = length-set t a (f a) ∙ h .long
+
+    further : (n : ℕ) → (n ≡ a → ⊥) → (n ≡ b → ⊥) → Unseen ch i n → Unseen ch (i + 1) n
+    further n not-a not-b unseen c from to pin =
+        elim (decLe c i) [
+          | yes k ↦ unseen c from k pin
+          | no k ↦
+              let here : c ≡ i + 1 = omega arith in
+              ⊎-elim (λ e. not-a (sym e ∙ (ap (at (ch .top)) here ∙ upper)))
+              (λ e. not-b (sym e ∙ (ap (at (ch .bot)) here ∙ lower))) pin
+        ]
+
+    each : (n : ℕ) → n < 512 → let t′ = set (set t a (f a)) b (f b) in
+        (getD t′ n 0 ≡ f n) ⊎ ((getD t′ n 0 ≡ 0) × Unseen ch (i + 1) n)
+    each n below =
+        ⊎-elim inl (λ second. ⊎-elim (λ e. inl (second .1 ∙ e))
+        (λ first. ⊎-elim (λ e. inl (second .1 ∙ (first .1 ∙ e)))
+        (λ old. inr (second .1 ∙ (first .1 ∙ old .0), further n (first .0) (second .0) (old .1))) (h .each n below))
+        (stored f t a n (rw (h .long) low-a))) (stored f (set t a (f a)) b n (rw once low-b))
+
+-- all columns: a net has a pin in one of them, and what is no net's has no columns
+pub copied-whole : {ch : Channel} (f : ℕ → ℕ) {t : List ℕ} → length (ch .bot) ≡ width ch
+    → ((n : ℕ) → (T (isNet ch n) → ⊥) → f n ≡ 0) → CopiedTo ch f (width ch) t → t ≡ each512 f
+copied-whole {ch} f {t} even none h =
+    numbered f 512 t (h .long) (λ n below. ⊎-elim (λ e. e) (λ o. o .0 ∙ sym (none n (λ net.
+    let p = net→pin ch n even net in o .1 (p .0) (p .1 .first) (p .1 .last) (p .1 .pin)))) (h .each n below))
+
 module _ (ch : Channel) where
-  inside : (n : ℕ) → (firstColumn ch n ≤ width ch) × (lastColumn ch n ≤ width ch)
-  unfolding firstColumn lastColumn
-  inside n = ends-inside (width ch) (pinColumns ch n) (λ c m. pin-column ch n c m .last)
-
-  none-passes : (f : ℕ → ℕ) → ((n : ℕ) → f n ≤ widest) → NonePasses512 (each512 f)
-  none-passes f h =
-      record {
-        long = length-map-from f 512;
-        low = λ c m. let r = Memᴰ·of-map f (from 0 512) m in subst (λ (k : ℕ). k ≤ widest) (r .2) (h (r .0));
-      }
-
-  -- "none passes 512"
-  pub columns-narrow : width ch ≤ widest → {first last : List ℕ} → first ≡ firsts ch → last ≡ lasts ch
-      → NonePasses512 first × NonePasses512 last
-  columns-narrow narrow f l = (
-    rw f (none-passes (firstColumn ch) (λ n. let i = inside n .0 in omega arith)),
-    rw l (none-passes (lastColumn ch) (λ n. let i = inside n .1 in omega arith)),
-  )
-
   -- a copy of the columns found has those of each record
   pub columns-due : {first last : List ℕ} → first ≡ firsts ch → last ≡ lasts ch → ColumnsDue ch first last
   unfolding records recordOf
@@ -62,8 +113,12 @@ module _ (ch : Channel) where
             ends = numbered-at (lastColumn ch) 512 l n (omega arith);
           }
 
+  -- both tables, with the pins of all columns copied
+  pub copied-due : {first last : List ℕ} → length (ch .bot) ≡ width ch → CopiedTo ch (firstColumn ch) (width ch) first
+      → CopiedTo ch (lastColumn ch) (width ch) last → ColumnsDue ch first last
+  copied-due even f l =
+      columns-due (copied-whole (firstColumn ch) even (no-first ch) f) (copied-whole (lastColumn ch) even (no-last ch) l)
+
   -- the copy is made of the rows without the parked pins; it is that of the whole list
   pub due-shown : {first last : List ℕ} → ColumnsDue (withoutParked ch) first last → ColumnsDue ch first last
-  due-shown d =
-      columns-due
-      (d .begins ∙ firsts-shown ch) (d .ends ∙ lasts-shown ch)
+  due-shown d = columns-due (d .begins ∙ firsts-shown ch) (d .ends ∙ lasts-shown ch)

@@ -1,18 +1,13 @@
 -- 02, Req 06: the columns from which the fill works, in its own copy of 16-bit numbers.
-use Prim.Native.Nat.{ℕ, _≤_}
+use Prim.Native.Nat.{ℕ}
 use mathlib.Core.Path.{_≡_}
 use mathlib.Core.List.{List, List·Memᴰ}
-use lib.ListN.{length, getD}
-use Rattle.channel.specs.Channel.{Channel, widest}
+use lib.ListN.{getD}
+use Rattle.channel.specs.Channel.{Channel}
 use Rattle.channel.specs.Spans.{firsts, lasts}
 use Rattle.leftedge.specs.declared.NetRecord.{NetRecord}
 use Rattle.leftedge.specs.Items.{Place}
 use Rattle.leftedge.specs.Nets.{records}
-
--- a column for each number up to 511, "since none passes 512"
-pub record NonePasses512 (columns : List ℕ) : Type 0 where
-  pub long : length columns ≡ 512
-  pub low : (c : ℕ) → List·Memᴰ c columns → c ≤ widest
 
 -- the copy has at the number of a record its first and its last column
 pub record CopiedFor (first last : List ℕ) (r : NetRecord) : Type 0 where

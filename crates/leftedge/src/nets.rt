@@ -113,7 +113,7 @@ pub fn fill_tracks(top: &[u32], bot: &[u32], ring: &mut [u32]) -> Filled
     let spans = channel::typed_spans(first, last);
     let mut begins = [0u16; NET_SLOTS];
     let mut ends = [0u16; NET_SLOTS];
-    copy_columns(&first, &last, &mut begins, &mut ends);
+    copy_columns(top, bot, &first, &last, &mut begins, &mut ends);
     let end = fill_nets(
         top,
         bot,

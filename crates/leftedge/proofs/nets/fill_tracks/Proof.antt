@@ -13,7 +13,6 @@ use Rattle.channel.specs.SpanLaws.{spanning-small}
 use Rattle.leftedge.specs.Nets.{netItems, fill}
 use Rattle.leftedge.specs.NetLaws.{order-length}
 use Rattle.leftedge.specs.Tables.{FillEnds}
-use Rattle.leftedge.specs.ColumnLaws.{columns-narrow}
 use Rattle.leftedge.specs.NetTurns.{placed-done, walk-begins, stuck-done}
 use Rattle.leftedge.proofs.nets.fill_tracks.Statement.{statement}
 use Rattle.leftedge.proofs.nets.fill_tracks.Tie as tie
@@ -55,9 +54,7 @@ spans-of t =
 copy-columns-requires : tie.Need-copy-columns-requires
 copy-columns-requires c κs =
     let f = found-in (c .before .before .before .before) in
-    let found = f .find-columns .ensures in
-    let narrow = columns-narrow (channel f) (start f .pre .0 .escapes .narrow) (found .0) (found .1) in
-    (narrow .0, narrow .1, refl, refl)
+    let found = f .find-columns .ensures in (start f .pre .0, found .0, found .1, refl, refl)
 
 -- where the fill has its copy
 abbrev Copied : Type 0
@@ -71,14 +68,13 @@ fill-nets-requires c κs =
     let p = c .before .before .before .before .before in
     let o = ordered (typed-in p) in
     let f = found-in (typed-in p) in
-    let found = f .find-columns .ensures in
     let made = o .net-order .ensures in
     let kept = o .net-order .kept in
     let size = kept .1 .1 .1 .1 .1 .0 in
     let only = start f .pre .0 in (
       record {
         only = only;
-        columns = p .copy-columns .ensures (channel f) (found .0) (found .1);
+        columns = p .copy-columns .ensures;
         order = front-of _ _ (made .0) (made .1);
         counted = made .0;
         fits = omega (arith, made .0, size, order-length (channel f) (only .escapes), spanning-small (channel f) .2);
