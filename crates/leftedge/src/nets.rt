@@ -125,14 +125,11 @@ pub fn fill_tracks(top: &[u32], bot: &[u32], ring: &mut [u32]) -> Filled
         &mut tracks,
     );
     match end {
-        FillEnd::Placed(t) => {
-            let placed = typed_tracks(tracks);
-            Filled {
-                outcome: Outcome::Placed(t),
-                spans,
-                tracks: placed,
-            }
-        }
+        FillEnd::Placed(t) => Filled {
+            outcome: Outcome::Placed(t),
+            spans,
+            tracks: typed_tracks(tracks),
+        },
         FillEnd::Stuck(n) => {
             let pairs = show_ring(top, bot, &tracks, &left, n, ring);
             let nobody = [Track(0); NET_SLOTS];
