@@ -10,7 +10,7 @@ use lib.ListN.{length, getD, set, replicate, length-set, length-replicate}
 use lib.Seq.{getD-set-same, getD-set-other}
 use lib.Dec.{T}
 use Rattle.lists.specs.Lists.{headOr, lastOr, at}
-use Rattle.lists.specs.Tests.{passes?, equal?}
+use Rattle.lists.specs.Tests.{equal?}
 use Rattle.lists.specs.Counts.{getD-zeros}
 use Rattle.lists.specs.Ends.{last-member}
 use Rattle.lists.specs.Arrays.{numbered, numbered-at}
@@ -20,7 +20,6 @@ use Rattle.channel.specs.ParkedLaws.{no-first, no-last}
 use Rattle.channel.specs.SpanLaws.{nets→}
 use Rattle.channel.specs.Spans.{each512, firsts, lasts}
 use Rattle.channel.specs.ShownLaws.{firsts-shown, lasts-shown}
-use Rattle.leftedge.specs.declared.NetRecord.{NetRecord}
 use Rattle.leftedge.specs.Items.{Place}
 use Rattle.leftedge.specs.Nets.{recordOf, records}
 use Rattle.leftedge.specs.Columns.{CopiedFor, ColumnsDue}

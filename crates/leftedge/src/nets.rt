@@ -2,7 +2,7 @@
 ghost use mathlib.Core.Path.{_≡_};
 ghost use Prim.Native.Nat.{_≤_};
 ghost use mathlib.Core.List.{map};
-ghost use lib.ListN.{length, replicate};
+ghost use lib.ListN.{length};
 ghost use Rattle.lists.specs.Lists.{overlay};
 ghost use Rattle.refusal.specs.Trays.{ringTray};
 ghost use Rattle.grid.specs.Pieces.{track};

@@ -2,7 +2,7 @@
 -- columns are copied. The columns left fall. At the end those of all nets are (`copied-due`).
 use Prim.Native.Nat.{_-_, _≤_, _<_}
 use native.Mathlib.Omega.{arith}
-use mathlib.Core.Path.{_≡_, sym}
+use mathlib.Core.Path.{_≡_}
 use lib.ListN.{length, getD}
 use Rattle.lists.specs.Arrays.{numbered-at}
 use Rattle.channel.specs.Channel.{Channel, width, widest, rows, firstColumn, lastColumn}
