@@ -1,5 +1,5 @@
--- The fill's own copy of the columns: none passes 512, so that 16 bits hold it; going over the rows' pins copies those of
--- all nets; and a copy of the columns found has those of each net record, with the parked pins removed or not.
+-- The fill's own copy of the columns: none passes 512, so that 16 bits hold it; going over the pins copies those of all
+-- nets; and a copy of the columns found has those of each net record, with the parked pins removed or not.
 use Prim.Native.Nat.{ℕ, _+_, _≤_, _<_}
 use native.Mathlib.Omega.{arith}
 use native.Mathlib.Decide.{decLe}
@@ -116,7 +116,8 @@ module _ (ch : Channel) where
   pub copied-due : {first last : List ℕ} → length (ch .bot) ≡ width ch → CopiedTo ch (firstColumn ch) (width ch) first
       → CopiedTo ch (lastColumn ch) (width ch) last → ColumnsDue ch first last
   copied-due even f l =
-      columns-due (copied-whole (firstColumn ch) even (no-first ch) f) (copied-whole (lastColumn ch) even (no-last ch) l)
+      columns-due (copied-whole (firstColumn ch) even (no-first ch) f)
+      (copied-whole (lastColumn ch) even (no-last ch) l)
 
   -- the copy is made of the rows without the parked pins; it is that of the whole list
   pub due-shown : {first last : List ℕ} → ColumnsDue (withoutParked ch) first last → ColumnsDue ch first last

@@ -1,7 +1,7 @@
-// The fill of items, track by track, over tables by item number: `first` and `last` have the columns of each item in 16
-// bits, `nets` the net that it is a part of, the places of `upper` in which an item stands below are linked by `head` and
-// `next`, and `under` counts the steps below each item that lead to unplaced ones. At worst as many looks as items
-// times tracks.
+// The fill of items, track by track, over tables by item number: `first` and `last` have the columns of each item, in
+// 16 bits; `nets` has the net that it is a part of; the places of `upper` in which an item stands below are linked by
+// `head` and `next`; and `under` counts the steps below each item that lead to unplaced ones. At worst as many looks as
+// items times tracks.
 ghost use mathlib.Core.Path.{_≡_};
 ghost use Prim.Native.Nat.{_<_};
 ghost use mathlib.Core.List.{List};
