@@ -14,7 +14,7 @@ use Rattle.lists.specs.Lists.{keep, upTo, headOr, lastOr, at}
 use Rattle.lists.specs.Tests.{eq→T, and-left, and-right, and-both, or-cases, or-left, or-right, not-passes, not-fails}
 use Rattle.lists.specs.Members.{keep-member, kept, upTo-member, in-upTo}
 use Rattle.lists.specs.Ends.{head-member, last-member, Rising, from-rising, keep-rising, head-least, last-greatest}
-use Rattle.lists.specs.Ends.{at-suc, at-inside, member-at}
+use Rattle.lists.specs.Ends.{ends-within, at-suc, at-inside, member-at}
 use Rattle.channel.specs.Channel.{Channel, width, positions, pinCount, isNet, stands, hasPin}
 use Rattle.channel.specs.Channel.{pinColumns, firstColumn, lastColumn}
 use Rattle.channel.specs.Constraints.{Above, above, Drop, drops}
@@ -128,6 +128,11 @@ pin-in-first ch n c p = pin-column ch n (headOr 0 (pinColumns ch n)) (head-membe
 pub pin-in-last : (ch : Channel) (n c : ℕ) → PinIn ch n c → PinIn ch n (lastColumn ch n)
 unfolding lastColumn
 pin-in-last ch n c p = pin-column ch n (lastOr 0 (pinColumns ch n)) (last-member 0 (in-pin-columns ch n c p))
+
+-- of any number: one that is no net's has column 0 for both
+pub columns-inside : (ch : Channel) (n : ℕ) → (firstColumn ch n ≤ width ch) × (lastColumn ch n ≤ width ch)
+unfolding firstColumn lastColumn
+columns-inside ch n = ends-within (width ch) (pinColumns ch n) (λ c m. pin-column ch n c m .last)
 
 -- a number stands at pin position i, counted from 0
 pub record PinAmong (ch : Channel) (n i : ℕ) : Type 0 where

@@ -1,21 +1,20 @@
--- The fill's own copy of the columns: none passes 512, so that 16 bits hold it; going over the pins copies those of all
--- nets; and a copy of the columns found has those of each net record, with the parked pins removed or not.
+-- The fill's own copy of the columns: going over the pins copies those of all nets; and a copy of the columns found has
+-- those of each net record, with the parked pins removed or not.
 use Prim.Native.Nat.{ℕ, _+_, _≤_, _<_}
 use native.Mathlib.Omega.{arith}
 use native.Mathlib.Decide.{decLe}
-use mathlib.Core.Path.{_≡_, refl, sym, _∙_, ap, subst}
-use mathlib.Core.List.{List, [], _∷_, List·Memᴰ, List·Memᴰ·head, Memᴰ·of-map}
+use mathlib.Core.Path.{_≡_, sym, _∙_, ap, subst}
+use mathlib.Core.List.{List, Memᴰ·of-map}
 use mathlib.Core.Logic.{_⊎_, inl, inr, ⊎-elim}
 use lib.ListN.{length, getD, set, replicate, length-set, length-replicate}
 use lib.Seq.{getD-set-same, getD-set-other}
 use lib.Dec.{T}
-use Rattle.lists.specs.Lists.{headOr, lastOr, at}
+use Rattle.lists.specs.Lists.{at}
 use Rattle.lists.specs.Tests.{equal?}
 use Rattle.lists.specs.Counts.{getD-zeros}
-use Rattle.lists.specs.Ends.{last-member}
 use Rattle.lists.specs.Arrays.{numbered, numbered-at}
-use Rattle.channel.specs.Channel.{Channel, width, pinColumns, firstColumn, lastColumn, isNet, nets, withoutParked}
-use Rattle.channel.specs.Laws.{pin-column, net→pin}
+use Rattle.channel.specs.Channel.{Channel, width, firstColumn, lastColumn, isNet, nets, withoutParked}
+use Rattle.channel.specs.Laws.{net→pin}
 use Rattle.channel.specs.ParkedLaws.{no-first, no-last}
 use Rattle.channel.specs.SpanLaws.{nets→}
 use Rattle.channel.specs.Spans.{each512, firsts, lasts}
@@ -23,18 +22,6 @@ use Rattle.channel.specs.ShownLaws.{firsts-shown, lasts-shown}
 use Rattle.leftedge.specs.Items.{Place}
 use Rattle.leftedge.specs.Nets.{recordOf, records}
 use Rattle.leftedge.specs.Columns.{CopiedFor, ColumnsDue}
-
--- the ends of columns that are all inside are inside
-ends-inside : (w : ℕ) (cs : List ℕ) → ((c : ℕ) → List·Memᴰ c cs → c ≤ w) → (headOr 0 cs ≤ w) × (lastOr 0 cs ≤ w)
-unfolding headOr lastOr
-ends-inside w [] h = (omega arith, omega arith)
-ends-inside w (c ∷ cs) h =
-    (h c (List·Memᴰ·head refl), h (lastOr 0 (c ∷ cs)) (last-member 0 {x = c} (List·Memᴰ·head refl)))
-
--- "none passes 512", nor the width
-pub columns-inside : (ch : Channel) (n : ℕ) → (firstColumn ch n ≤ width ch) × (lastColumn ch n ≤ width ch)
-unfolding firstColumn lastColumn
-columns-inside ch n = ends-inside (width ch) (pinColumns ch n) (λ c m. pin-column ch n c m .last)
 
 -- of the first i columns none has a pin of number n
 abbrev pub Unseen : Channel → ℕ → ℕ → Type 0

@@ -28,7 +28,8 @@ fn copy_net(
 }
 
 // Copies the columns of every net of a channel whose rows show nets only, by its number, into tables that hold 0
-// everywhere. A net is copied at each of its pins: a small channel has fewer of these than there are numbers.
+// everywhere. A net is copied at each of its pins: a small channel has fewer of these than there are numbers. So is 0,
+// which stands where no pin is, and whose columns are 0.
 pub fn copy_columns(
     top: &[u32],
     bot: &[u32],

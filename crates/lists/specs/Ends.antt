@@ -24,6 +24,13 @@ module _ {A : Type 0} where
   last-member d {xs = y ∷ []} m = List·Memᴰ·head refl
   last-member d {xs = y ∷ (z ∷ zs)} m = List·Memᴰ·tail (last-member y {xs = z ∷ zs} {x = z} (List·Memᴰ·head refl))
 
+-- both are within a bound of all
+pub ends-within : (w : ℕ) (xs : List ℕ) → ((x : ℕ) → List·Memᴰ x xs → x ≤ w) → (headOr 0 xs ≤ w) × (lastOr 0 xs ≤ w)
+unfolding headOr lastOr
+ends-within w [] h = (omega arith, omega arith)
+ends-within w (x ∷ xs) h =
+    (h x (List·Memᴰ·head refl), h (lastOr 0 (x ∷ xs)) (last-member 0 {x = x} (List·Memᴰ·head refl)))
+
 -- each number stands below all that come after it
 unfoldable pub Rising : List ℕ → Type 0
 Rising [] = Unit {0}
