@@ -61,7 +61,7 @@ static void time_growth(enum operation operation, enum shape shape, double secon
 
 static int time_all(double seconds)
 {
-    for (enum operation operation = 0; operation < OPERATIONS; operation++)
+    for (enum operation operation = 0; operation < MEASURED; operation++)
         for (enum shape shape = 0; shape < SHAPES; shape++)
             if (measured_on(operation, shape)) {
                 double medians[1][SIDES];
@@ -69,7 +69,7 @@ static int time_all(double seconds)
                 measure(operation, &input, 1, seconds, medians);
                 print_time("TIME", operation, shape, input.top_length, medians[0]);
             }
-    for (enum operation operation = BOUNDS; operation < OPERATIONS; operation++) {
+    for (enum operation operation = BOUNDS; operation < MEASURED; operation++) {
         time_growth(operation, DENSE, SERIES * seconds);
         time_growth(operation, FULLEST, SERIES * seconds);
     }
@@ -78,7 +78,7 @@ static int time_all(double seconds)
 
 static int count_all(void)
 {
-    for (enum operation operation = 0; operation < OPERATIONS; operation++)
+    for (enum operation operation = 0; operation < MEASURED; operation++)
         for (enum shape shape = 0; shape < SHAPES; shape++)
             if (measured_on(operation, shape)) {
                 make_input(shape, 512, &input);

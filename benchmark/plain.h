@@ -30,6 +30,10 @@ uint64_t plain_route(const uint32_t *top, size_t top_length, const uint32_t *bot
 uint64_t plain_judge(const uint32_t *top, size_t top_length, const uint32_t *bot, size_t bot_length,
                      const uint8_t *board, size_t board_length, uint32_t *scratch, size_t scratch_length);
 
+uint64_t plain_looks(const uint32_t *top, size_t top_length, const uint32_t *bot, size_t bot_length);
+
+uint64_t plain_ceiling(const uint32_t *top, size_t top_length, const uint32_t *bot, size_t bot_length);
+
 /* What the parts of the plain version share. */
 
 /* A refusal or fault and its place, in one number. */
@@ -95,10 +99,11 @@ uint32_t plain_density(const uint32_t *items, size_t count, const struct plain_s
 /* The most items on a path down, 0 where one returns to its start. */
 uint32_t plain_chain(const struct plain_rows *rows, struct plain_steps *steps, const uint32_t *items, size_t count);
 
-/* Fills the tracks: the track of each net by its number in `tracks`, which is zeroed first. Answers the number of
- * tracks; or, where the channel is tangled, minus the number of pairs put at the front of `ring`. */
+/* Fills the tracks: the track of each net by its number in `tracks`, which is zeroed first, and in *looks how many
+ * unplaced nets were looked at, once per track scan. Answers the number of tracks; or, where the channel is tangled,
+ * minus the number of pairs put at the front of `ring`. */
 int plain_fill(const struct plain_rows *rows, const struct plain_spans *spans, uint32_t tracks[PLAIN_NETS],
-               uint32_t *ring);
+               uint32_t *ring, size_t *looks);
 
 /* Draws a filled channel of t tracks into a board; answers the number of pieces. */
 uint32_t plain_draw(const struct plain_rows *rows, const struct plain_spans *spans, const uint32_t tracks[PLAIN_NETS],

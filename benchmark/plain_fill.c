@@ -41,15 +41,19 @@ static void copy_columns(const struct plain_rows *rows, const struct plain_spans
     }
 }
 
-/* One scan of the nets left for track k: those placed get the track, the others move to the front. Answers how many
- * are left. */
-static size_t scan_track(const struct plain_rows *rows, const struct columns *columns, const struct parts *parts,
-                         struct plain_steps *steps, uint32_t left[PLAIN_NETS], size_t count,
-                         uint32_t tracks[PLAIN_NETS], uint32_t k)
+/* What a scan comes to: how many nets are left, and how many it looked at. */
+struct scanned {
+    size_t rest, looks;
+};
+
+/* One scan of the nets left for track k: those placed get the track, the others move to the front. */
+static struct scanned scan_track(const struct plain_rows *rows, const struct columns *columns,
+                                 const struct parts *parts, struct plain_steps *steps, uint32_t left[PLAIN_NETS],
+                                 size_t count, uint32_t tracks[PLAIN_NETS], uint32_t k)
 {
     uint16_t end = 0; /* the last column of the item placed before, and its net */
     uint32_t net = 0;
-    size_t rest = 0;
+    struct scanned scanned = {0, 0};
     for (size_t i = 0; i < count; i++) {
         uint32_t n = left[i];
         uint16_t start = columns->first[n];
@@ -58,11 +62,13 @@ static size_t scan_track(const struct plain_rows *rows, const struct columns *co
             end = columns->last[n];
             net = net_of(parts, n);
             lower_above(rows, steps, n);
+            scanned.looks++;
         } else {
-            left[rest++] = n;
+            left[scanned.rest++] = n;
+            scanned.looks++;
         }
     }
-    return rest;
+    return scanned;
 }
 
 /* For each net its lowest column that has a net without a track below it, 0 if there is none. */
@@ -109,7 +115,7 @@ static int show_ring(const struct plain_rows *rows, const uint32_t tracks[PLAIN_
 }
 
 int plain_fill(const struct plain_rows *rows, const struct plain_spans *spans, uint32_t tracks[PLAIN_NETS],
-               uint32_t *ring)
+               uint32_t *ring, size_t *looks)
 {
     uint32_t left[PLAIN_NETS];
     struct plain_steps steps;
@@ -121,11 +127,13 @@ int plain_fill(const struct plain_rows *rows, const struct plain_spans *spans, u
     struct columns columns;
     copy_columns(rows, spans, &columns);
     plain_link_steps(rows, &steps);
+    *looks = 0;
     while (count != 0) {
-        size_t rest = scan_track(rows, &columns, &none, &steps, left, count, tracks, (uint32_t)done + 1);
-        if (rest == count)
+        struct scanned scanned = scan_track(rows, &columns, &none, &steps, left, count, tracks, (uint32_t)done + 1);
+        *looks += scanned.looks;
+        if (scanned.rest == count)
             return -show_ring(rows, tracks, left, count, ring);
-        count = rest;
+        count = scanned.rest;
         done++;
     }
     return done;

@@ -67,8 +67,9 @@ uint64_t plain_route(const uint32_t *top, size_t top_length, const uint32_t *bot
     struct plain_rows rows = plain_leave_parked(&whole, &copy);
     struct plain_spans spans;
     uint32_t tracks[PLAIN_NETS];
+    size_t looks; /* counted, and not told here */
     plain_find_spans(&rows, &spans);
-    int filled = plain_fill(&rows, &spans, tracks, ring);
+    int filled = plain_fill(&rows, &spans, tracks, ring, &looks);
     if (filled < 0)
         return plain_refused(7, (size_t)-filled);
     uint64_t pieces = plain_draw(&rows, &spans, tracks, (uint32_t)filled, board);

@@ -6,7 +6,7 @@
 #include "channel.h"
 #include "plain.h"
 
-const char *const operation_names[OPERATIONS] = {"read", "bounds", "route", "judge"};
+const char *const operation_names[OPERATIONS] = {"read", "bounds", "route", "judge", "looks", "ceiling"};
 const char *const side_names[SIDES] = {"rattle", "c"};
 
 static const struct {
@@ -14,9 +14,11 @@ static const struct {
     uint64_t (*bounds)(const uint32_t *, size_t, const uint32_t *, size_t);
     uint64_t (*route)(const uint32_t *, size_t, const uint32_t *, size_t, uint32_t *, size_t, uint8_t *, size_t);
     uint64_t (*judge)(const uint32_t *, size_t, const uint32_t *, size_t, const uint8_t *, size_t, uint32_t *, size_t);
+    uint64_t (*looks)(const uint32_t *, size_t, const uint32_t *, size_t);
+    uint64_t (*ceiling)(const uint32_t *, size_t, const uint32_t *, size_t);
 } entries[SIDES] = {
-    {cabjirt_read, cabjirt_bounds, cabjirt_route, cabjirt_judge},
-    {plain_read, plain_bounds, plain_route, plain_judge},
+    {cabjirt_read, cabjirt_bounds, cabjirt_route, cabjirt_judge, cabjirt_looks, cabjirt_ceiling},
+    {plain_read, plain_bounds, plain_route, plain_judge, plain_looks, plain_ceiling},
 };
 
 void lend(struct lent *lent)
@@ -38,8 +40,12 @@ uint64_t call(enum side side, enum operation operation, const struct input *in, 
     case ROUTE:
         return entries[side].route(in->top, in->top_length, in->bot, in->bot_length, lent->ring, lent->ring_length,
                                    lent->board, lent->board_length);
-    default:
+    case JUDGE:
         return entries[side].judge(in->top, in->top_length, in->bot, in->bot_length, in->file, in->file_length,
                                    lent->scratch, lent->scratch_length);
+    case LOOKS:
+        return entries[side].looks(in->top, in->top_length, in->bot, in->bot_length);
+    default:
+        return entries[side].ceiling(in->top, in->top_length, in->bot, in->bot_length);
     }
 }

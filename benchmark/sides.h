@@ -10,7 +10,8 @@ enum { ROW = 512, RING = 1022, BOARD = 10240, SCRATCH = 10238 };
 /* The longest text and board file that an input has. */
 enum { TEXT_LIMIT = 65536, FILE_LIMIT = 4 + 4 * 4095 };
 
-enum operation { READ, BOUNDS, ROUTE, JUDGE, OPERATIONS };
+/* Looks and ceiling are compared and not measured: they are parts of routing. */
+enum operation { READ, BOUNDS, ROUTE, JUDGE, LOOKS, CEILING, OPERATIONS, MEASURED = LOOKS };
 
 /* What an operation is given: a pin list as text, the same as rows, a board file. Rows over 512 are there to be
  * refused. */

@@ -62,6 +62,18 @@ static void *choosing(void *unused)
     return unused;
 }
 
+static void *looking(void *unused)
+{
+    answer = cabjirt_looks(top, CABJIRT_ROW, bot, CABJIRT_ROW);
+    return unused;
+}
+
+static void *capping(void *unused)
+{
+    answer = cabjirt_ceiling(top, CABJIRT_ROW, bot, CABJIRT_ROW);
+    return unused;
+}
+
 /* How many bytes of its stack a thread changes. */
 static size_t depth(void *(*entry)(void *))
 {
@@ -90,7 +102,9 @@ int main(void)
                    {"cabjirt_bounds", bounding},
                    {"cabjirt_route", routing},
                    {"cabjirt_judge", judging},
-                   {"cabjirt_blank", choosing}};
+                   {"cabjirt_blank", choosing},
+                   {"cabjirt_looks", looking},
+                   {"cabjirt_ceiling", capping}};
     make_text();
     size_t without = depth(nothing);
     for (size_t i = 0; i < sizeof entries / sizeof *entries; i++) {

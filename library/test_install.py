@@ -119,7 +119,7 @@ class Installed(unittest.TestCase):
         told = dict(re.findall(r"^\| `(cabjirt_\w+)` \| (\d+) KiB \|", (ROOT / "docs" / "MANUAL.md").read_text(), re.M))
         for _, name, used in map(str.split, measured.splitlines()):
             self.assertLessEqual(int(used), 1024 * int(told[name]), name)
-        self.assertEqual(len(told), 5)
+        self.assertEqual(len(told), 7)
 
     def test_the_man_page(self):
         page = self.prefix / "share" / "man" / "man1" / "channel.1"

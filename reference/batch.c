@@ -2,7 +2,7 @@
  *
  * Usage: batch < questions > lines. A question is, its numbers most significant byte first:
  *
- *     kind      1 byte: 0 read, 1 bounds, 2 route, 3 judge, 4 blank
+ *     kind      1 byte: 0 read, 1 bounds, 2 route, 3 judge, 4 blank, 5 looks, 6 ceiling
  *     fill      1 byte: what the lent buffers hold before; if it is odd, a buffer of length 0 is lent as NULL
  *     lent      2 numbers of 4 bytes: the lengths of the buffers that the entry writes (read: TOP, BOT; route: ring,
  *               board; judge: scratch, and one that is not used; blank: its tracks, and one that is not used)
@@ -19,7 +19,7 @@
 
 #include "channel.h"
 
-enum { READ, BOUNDS, ROUTE, JUDGE, BLANK };
+enum { READ, BOUNDS, ROUTE, JUDGE, BLANK, LOOKS, CEILING };
 enum { LENT = 2, LENGTHS = 3, HEADER = 2 + 4 * (LENT + LENGTHS), GUARD = 64, LONGEST = 1 << 20 };
 
 struct question {
@@ -162,6 +162,12 @@ static void ask(const struct question *q)
         break;
     case BLANK:
         put_answer(cabjirt_blank(q->lent[0]));
+        break;
+    case LOOKS:
+        put_answer(cabjirt_looks(q->top, q->top_length, q->bot, q->bot_length));
+        break;
+    case CEILING:
+        put_answer(cabjirt_ceiling(q->top, q->top_length, q->bot, q->bot_length));
         break;
     default:
         fail("a question is of no kind");

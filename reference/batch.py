@@ -9,8 +9,8 @@ import channel
 ROOT = Path(__file__).resolve().parent.parent
 PROGRAM = ROOT / "target" / "batch"
 LIBRARY = ROOT / "target" / "staticlib" / "libscreen_api.a"
-READ, BOUNDS, ROUTE, JUDGE, BLANK = range(5)
-NAMES = ("read", "bounds", "route", "judge", "blank")
+READ, BOUNDS, ROUTE, JUDGE, BLANK, LOOKS, CEILING = range(7)
+NAMES = ("read", "bounds", "route", "judge", "blank", "looks", "ceiling")
 WORKERS = 2  # processes that make cases
 HEADER = struct.Struct(">BB5I")
 
@@ -47,7 +47,7 @@ class Case:
         kind, fill, first, second = HEADER.unpack_from(self.question)[:4]
         (top, bot), data = self.inputs()
         lines = [f"{NAMES[kind]}, lent {first} and {second}, fill {fill}"]
-        if kind in (BOUNDS, ROUTE, JUDGE):
+        if kind not in (READ, BLANK):
             lines += [joined("TOP", listed(top)), joined("BOT", listed(bot))]
         if kind in (READ, JUDGE):
             lines.append(f"{len(data)} bytes {data.hex()}")
@@ -76,13 +76,29 @@ def read(text, fill=0, top=channel.ROW, bot=channel.ROW):
     return Case(READ, due, fill, (top, bot), data=text)
 
 
-def bounds(top, bot, fill=0):
+def asked_of_rows(kind, value_of, top, bot, fill):
+    """The case of an entry that takes rows alone."""
     try:
-        density, chain = channel.bounds(top, bot)
-        answer = (0, density * 65536 + chain)
+        answer = (0, value_of(top, bot))
     except channel.Refused as refusal:
         answer = (refusal.number, refusal.place)
-    return Case(BOUNDS, joined(*answer, "inputs kept"), fill, top=top, bot=bot)
+    return Case(kind, joined(*answer, "inputs kept"), fill, top=top, bot=bot)
+
+
+def bounds(top, bot, fill=0):
+    def value_of(*rows):
+        density, chain = channel.bounds(*rows)
+        return density * 65536 + chain
+
+    return asked_of_rows(BOUNDS, value_of, top, bot, fill)
+
+
+def looks(top, bot, fill=0):
+    return asked_of_rows(LOOKS, channel.looks, top, bot, fill)
+
+
+def ceiling(top, bot, fill=0):
+    return asked_of_rows(CEILING, channel.ceiling, top, bot, fill)
 
 
 def route(top, bot, fill=0, ring=channel.RING, board=channel.BOARD):

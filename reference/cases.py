@@ -11,7 +11,7 @@ import channel
 import row_cases
 import text_cases
 
-OPEN, PIECE, BLANK, READ, CHECK, BOUNDS, FILL, JUDGE = range(8)
+OPEN, PIECE, BLANK, READ, CHECK, BOUNDS, FILL, JUDGE, LOOKS = range(9)
 
 
 def pair(number):
@@ -77,9 +77,10 @@ class Cases:
 
     def fill(self, top, bot):
         """The track of each net that is not parked, by rising number, or the ring; the rest of the ring buffer, which
-        holds 7777, must still hold it."""
+        holds 7777, must still hold it; and the looks, 0 where the rows are refused before the fill."""
+        looks = 0
         try:
-            channel.check(top, bot)
+            looks = channel.looks(top, bot)
             tracks, track_of = channel.fill(top, bot)
             nets = sorted(channel.columns_of(top, bot))
             lines = [("FILL", 0, tracks), ("TRACKS", *(track_of.get(n, 0) for n in nets))]
@@ -87,11 +88,17 @@ class Cases:
             lines = [("FILL", refusal.number, refusal.place)]
             if refusal.number == 7:
                 lines.append(("RING", *(x for step in refusal.ring for x in step)))
-        self.add(FILL, rows_data(top, bot), *lines, ("KEPT",))
+        self.add(FILL, rows_data(top, bot), *lines, ("KEPT",), ("LOOKS", looks))
+
+    def looks(self, top, bot):
+        """The looks told of rows alone, and their ceiling."""
+        self.add(LOOKS, rows_data(top, bot), self.told("LOOKS", lambda: (channel.looks(top, bot),)),
+                 self.told("CEILING", lambda: (channel.ceiling(top, bot),)))
 
     def channel_cases(self, top, bot):
         self.bounds(top, bot)
         self.fill(top, bot)
+        self.looks(top, bot)
 
     def judge(self, top, bot, file):
         self.add(JUDGE, pair(2 + 2 * (len(top) + len(bot))) + rows_data(top, bot) + file,

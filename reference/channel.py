@@ -2,9 +2,9 @@
 natural.
 
 Rows stay as they were handed over; each number in them is asked whether it is a net or parked. Nets are kept in
-dictionaries and sets, the form of a text is a regular expression, the chain is a memoised search, and the judge floods
-grid points layer by layer. Every function answers the paper's numbers: a refusal is `Refused(number, place)`, raised or
-returned.
+dictionaries and sets, the form of a text is a regular expression, the chain is found by removing nets from the bottom
+up, the looks of a fill are summed from the tracks of its nets, and the judge floods grid points layer by layer. Every
+function answers the paper's numbers: a refusal is `Refused(number, place)`, raised or returned.
 """
 import re
 
@@ -111,25 +111,32 @@ def bounds(top, bot):
 
 # --- filling and drawing --------------------------------------------------------------------------------------------
 
-def fill(top, bot):
-    """The number of tracks and the track of each net; or refusal 7 with its ring."""
-    spans, steps = spans_of(top, bot), steps_of(top, bot)
-    below = below_of(steps)
+def filled(top, bot):
+    """The number of tracks filled, the track of each net placed, and the nets left: none, or those at which a track
+    stayed empty."""
+    spans, below = spans_of(top, bot), below_of(steps_of(top, bot))
     unplaced = sorted(spans, key=lambda n: (spans[n][0], n))
-    track_of, track = {}, 0
+    track_of, tracks = {}, 0
     while unplaced:
-        track += 1
         end, passed = 0, []
         for n in unplaced:
             if spans[n][0] > end and all(lower in track_of for lower in below.get(n, ())):
-                track_of[n], end = track, spans[n][1]
+                track_of[n], end = tracks + 1, spans[n][1]
             else:
                 passed.append(n)
         if len(passed) == len(unplaced):
-            ring = ring_of(steps, set(unplaced))
-            raise Refused(7, len(ring), ring)
-        unplaced = passed
-    return track, track_of
+            break
+        tracks, unplaced = tracks + 1, passed
+    return tracks, track_of, unplaced
+
+
+def fill(top, bot):
+    """The number of tracks and the track of each net; or refusal 7 with its ring."""
+    tracks, track_of, left = filled(top, bot)
+    if left:
+        ring = ring_of(steps_of(top, bot), set(left))
+        raise Refused(7, len(ring), ring)
+    return tracks, track_of
 
 
 def ring_of(steps, unplaced):
@@ -139,6 +146,21 @@ def ring_of(steps, unplaced):
         walked.append((net, column))
         net = lower
     return walked[[n for n, _ in walked].index(net):]
+
+
+def looks(top, bot):
+    """How many nets the scans of the fill examine (Req 07). A net on track k was unplaced as scans 1 to k began; one
+    that is left was so as every scan began, the empty one included."""
+    check(top, bot)
+    tracks, track_of, left = filled(top, bot)
+    return sum(track_of.values()) + len(left) * (tracks + 1)
+
+
+def ceiling(top, bot):
+    """What the looks do not pass, for n nets with spans: n times (n + 1), halved."""
+    check(top, bot)
+    nets = len(spans_of(top, bot))
+    return nets * (nets + 1) // 2
 
 
 def draw(top, bot):

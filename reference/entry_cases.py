@@ -13,14 +13,18 @@ import row_cases
 import small_channels
 import text_cases
 
-# What must be shown by some good board, some channel or board with parked pins, some text that is read, and some text
-# that is garbled.
+# What must be shown by some good board, some channel or board with parked pins, some text that is read, some text that
+# is garbled, some looks, and some ceiling; and the refusals that looks and ceiling must have.
 GOOD = ("several trunks a net", "a tangled channel", "copper at an edge place without a pin",
         "copper on a parked pin", "a parked pin without copper")
 PARKED = ("a routed channel", "a channel of nothing else", "a refused ring", "a short")
 READ = ("runs of spaces", "a carriage return in each line", "one in TOP alone", "one in BOT alone")
 GARBLED = ("a carriage return in the place", "one before the place", "a tab in the place",
            "a space before a line's end in the place")
+LOOKS = ("a ring and no track", "a ring above some tracks", "as many as the ceiling", "fewer than the ceiling",
+         "parked pins")
+CEILING = ("no net that spans", "parked pins and no net that spans")
+REFUSED = tuple(f"refusal {number} of {name}" for name in ("looks", "ceiling") for number in (3, 4, 5))
 SMALL_CHANNELS = [tuple(map(list, rows)) for rows in small_channels.shapes(2)]
 
 
@@ -29,6 +33,11 @@ def lent(rng, needed):
     if rng.random() < 0.9:
         return needed
     return rng.choice((0, 1, needed - 1, needed + 1, needed + 40, rng.randint(0, needed)))
+
+
+def rows_cases(rows, fill=0):
+    """The cases of the entries that take rows alone."""
+    return batch.bounds(*rows, fill), batch.looks(*rows, fill), batch.ceiling(*rows, fill)
 
 
 def text_job(rng):
@@ -43,10 +52,10 @@ def channel_job(rng):
     for _ in range(300):
         rows = random_channels.escaping(rng)
         yield batch.route(*rows, rng.randrange(256), lent(rng, channel.RING), lent(rng, channel.BOARD))
-        yield batch.bounds(*rows, rng.randrange(256))
+        yield from rows_cases(rows, rng.randrange(256))
         rows = random_channels.refused(rng)
         yield batch.route(*rows, rng.randrange(256), lent(rng, channel.RING), lent(rng, channel.BOARD))
-        yield batch.bounds(*rows, rng.randrange(256))
+        yield from rows_cases(rows, rng.randrange(256))
         bare = channel.encode(max(1, len(rows[0])), 0, [])
         yield batch.judge(*rows, bare, rng.randrange(256), lent(rng, channel.SCRATCH))
 
@@ -97,7 +106,7 @@ def wide_job(rng):
     for _ in range(4):
         rows = random_channels.wide(rng)
         yield batch.route(*rows, rng.randrange(256))
-        yield batch.bounds(*rows, rng.randrange(256))
+        yield from rows_cases(rows, rng.randrange(256))
         yield batch.read(random_texts.typed(rng, *rows), rng.randrange(256))
     tracks, pieces = random_boards.routed(rng, rows)
     yield from damages(rng, rows, tracks, pieces, 1)
@@ -119,14 +128,15 @@ def small_board_job(_):
 
 def fixed_job(_):
     """Blanks, texts about the programs' limit and garbled ones, the channels of the gate, the tallest boards, boards
-    with parked pins, a split trunk made by hand, and each buffer too short where other refusals would follow."""
+    with parked pins, a split trunk made by hand, each buffer too short where other refusals would follow, and rows that
+    several refusals fit."""
     for tracks in [*range(0, 600), 2**16, 2**31, 2**32 - 1]:
         yield batch.blank(tracks)
     for text in [*list(random_texts.long_texts())[::2], *text_cases.BAD, text_cases.GOOD, text_cases.PADDED]:
         yield batch.read(text, 1)
     for rows in row_cases.channels():
         yield batch.route(*rows)
-        yield batch.bounds(*rows)
+        yield from rows_cases(rows)
     for rows in (row_cases.chained(511), row_cases.crowded()):  # the most tracks, and the most beside two parked pins
         tracks, _, pieces = channel.draw(*rows)
         yield batch.judge(*rows, channel.encode(512, tracks, pieces))
@@ -142,6 +152,8 @@ def fixed_job(_):
             yield batch.route([1, 2], [2, 1], fill, ring, board)
         for scratch in (0, 10237, 10238, 10239):
             yield batch.judge([], [700], b"", fill, scratch)
+        for rows in (([], []), ([], [700]), ([0] * 513, []), ([0] * 513, [700] * 514), ([1, 2], [700])):
+            yield from rows_cases(rows, fill)
 
 
 JOBS = ((fixed_job, 1), (small_board_job, 1), (wide_job, 10), (maze_job, 8), (own_board_job, 8), (channel_job, 10),
@@ -167,6 +179,8 @@ def features(case):
         yield from parked_features(case)
     if case.kind() == batch.READ and case.number() in (0, 2):
         yield from text_features(case)
+    if case.kind() in (batch.LOOKS, batch.CEILING):
+        yield from looks_features(case)
 
 
 def good_features(case):
@@ -216,3 +230,18 @@ def text_features(case):
         here, before = text[case.place():][:1], text[:case.place()][-1:]
         shown = here == b"\r", before == b"\r", here == b"\t", before == b" " and here in (b"\r", b"\n")
     yield from (name for name, seen in zip(GARBLED if case.number() else READ, shown) if seen)
+
+
+def looks_features(case):
+    """What the looks or the ceiling of a channel show, or their refusal."""
+    if case.number() != 0:
+        yield f"refusal {case.number()} of {batch.NAMES[case.kind()]}"
+        return
+    rows, _ = case.inputs()
+    value, parked, ceiling = case.place(), small_channels.parked_in(*rows), channel.ceiling(*rows)
+    if case.kind() == batch.CEILING:
+        names, shown = CEILING, (ceiling == 0, ceiling == 0 and parked)
+    else:
+        tracks, _, left = channel.filled(*rows)
+        names, shown = LOOKS, (left and not tracks, left and tracks, 0 < value == ceiling, value < ceiling, parked)
+    yield from (name for name, seen in zip(names, shown) if seen)

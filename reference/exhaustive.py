@@ -4,7 +4,8 @@ Usage: python3 reference/exhaustive.py [SEED]
 
 The router is asked for every channel of up to 3 columns with nets 1 to 3, for every channel of 4 columns but for the
 names of its nets, and for some of 5; parked pins are among them all. It has to refuse as tangled just those of which
-layout_search.py finds no layout, and to answer a channel as the same without its parked pins.
+layout_search.py finds no layout, and to answer a channel as the same without its parked pins. Of the same channels the
+looks and their ceiling are asked.
 """
 import random
 import re
@@ -16,6 +17,7 @@ sys.dont_write_bytecode = True  # the modules below leave nothing beside them
 
 import batch
 import channel
+import looks_checks
 import parked_checks
 import random_boards
 import random_channels
@@ -147,14 +149,15 @@ def shapes_of(rows):
 
 
 def checked(channels):
-    """The differences of some channels, and how many are tangled, have no column with two nets, or have parked pins;
-    for a process of its own."""
+    """The differences of some channels, and how many are tangled, have no column with two nets, have parked pins, or
+    take as many looks as the ceiling; for a process of its own."""
     found = {shape: fewest(shape) for shape in {shape for rows in channels for shape in shapes_of(rows)}}
     differences = [*router_differences(channels, found), *parked_checks.search_differences(channels, found),
-                   *parked_checks.router_differences(channels)]
+                   *parked_checks.router_differences(channels), *looks_checks.entry_differences(channels)]
     return differences, Counter(tangled=sum(found[shape_of(*rows)] is None for rows in channels),
                                 free=sum(free(*rows) for rows in channels),
-                                parked=len(parked_checks.with_parked(channels)))
+                                parked=len(parked_checks.with_parked(channels)),
+                                most_looks=sum(0 < channel.looks(*rows) == channel.ceiling(*rows) for rows in channels))
 
 
 def compare(seed):
@@ -170,7 +173,8 @@ def compare(seed):
     return told(differences[0]) if differences else None, (
         f"{len(channels)} channels, {different} but for the names of nets; {counts['tangled']} have no layout with one"
         f" trunk a net and are refused, the others are routed well; {counts['free']} have no column with two nets and"
-        f" as many tracks as the density; {counts['parked']} have parked pins and are answered as without them")
+        f" as many tracks as the density; {counts['parked']} have parked pins and are answered as without them;"
+        f" {counts['most_looks']} with nets to place take as many looks as the ceiling, none takes more")
 
 
 def main(arguments):

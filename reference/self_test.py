@@ -9,6 +9,7 @@ import entry_cases
 import exhaustive
 import form_checks
 import layout_search
+import looks_checks
 import parked_checks
 import program_cases
 import random_boards
@@ -23,6 +24,8 @@ FILE = channel.board(text_cases.GOOD)
 WRONG_PARKED = {"BLOCKS": ("channel_job",), "DRAWS": ("channel_job",), "COUNTS": ("channel_job",),
                 "SKIPS": ("own_board_job", "scatter_job", "maze_job")}
 WRONG_ROUTERS = ("BLOCKS", "DRAWS")
+# The wrong entries of wrong_looks.c: the cases of channel_job tell each, and so do small channels.
+WRONG_LOOKS = ("LAST", "PLACED", "STRAIGHT", "PARKED", "SQUARE")
 # Forms that get Req 01 wrong: what they take before a number, and at the end of a line.
 WRONG_FORMS = {
     "no runs of spaces": (b" ", rb"\r?\n"), "tabs": (rb"[ \t]+", rb"\r?\n"), "no carriage return": (b" +", rb"\n"),
@@ -54,12 +57,13 @@ def program_faults(first_difference):
 
 def entry_questions():
     return [batch.read(text_cases.GOOD), batch.bounds(*ROWS), batch.route(*ROWS), batch.judge(*ROWS, FILE),
-            batch.blank(9), batch.route([1, 2], [2, 1])]
+            batch.blank(9), batch.looks(*ROWS), batch.ceiling(*ROWS), batch.route([1, 2], [2, 1])]
 
 
 def entry_faults(first_difference):
     cases = entry_questions()
-    if PINS not in cases[2].shown() or FILE.hex() not in cases[3].shown():
+    shown = [case.shown() for case in cases]
+    if any(PINS not in shown[i] for i in (1, 2, 3, 5, 6)) or FILE.hex() not in shown[3]:
         yield "an entry's input is not shown"
     yield from wrong_dues(cases, batch.answers([case.question for case in cases]), first_difference)
     missing = batch.answers([cases[0].question, b"\x09" + bytes(batch.HEADER.size - 1), cases[1].question])
@@ -73,8 +77,8 @@ def buffer_faults():
     batch.build(batch.ROOT / "reference" / "wrong_entries.c", program)
     due = ["0 1 top 0 kept bot 0 changed 2048 inputs kept", "0 0 inputs changed",
            "7 1 ring 1 2 changed 8 board changed -1 inputs kept", "0 2 scratch changed 40952 inputs kept",
-           "14 9 inputs kept"]
-    for line, wanted in zip(batch.answers([case.question for case in entry_questions()[:5]], program), due):
+           "14 9 inputs kept", "0 1 inputs changed", "0 3 inputs changed"]
+    for line, wanted in zip(batch.answers([case.question for case in entry_questions()[:7]], program), due):
         if line != wanted:
             yield f"a spoilt byte is told as '{line}', due '{wanted}'"
 
@@ -115,6 +119,23 @@ def parked_entry_faults(first_difference):
         if wrong in WRONG_ROUTERS and not list(exhaustive.router_differences(small, found, program)):
             yield f"the wrong entry {wrong} is not found by the search"
         if wrong in WRONG_ROUTERS and not list(parked_checks.router_differences(small, program)):
+            yield f"the wrong entry {wrong} is not found where the parked pins are removed"
+
+
+def looks_entry_faults(first_difference):
+    """Entries that get looks or their ceiling wrong, on cases as they are drawn and on all channels of 2 columns."""
+    small = [tuple(map(list, shape)) for shape in small_channels.shapes(2)]
+    cases, _ = entry_cases.made(("self-test", "channel_job", 0))
+    program = batch.PROGRAM.with_name("batch_looks")
+    for wrong in WRONG_LOOKS:
+        batch.build(program=program, source="wrong_looks.c", flags=[f"-DWRONG={wrong}"])
+        told = first_difference(cases, batch.answers([case.question for case in cases], program))
+        if not told or "no answer" in told:
+            yield f"the wrong entry {wrong} is not found by the cases drawn: {told}"
+        found = [fault for fault, _ in looks_checks.entry_differences(small, program)]
+        if not found:
+            yield f"the wrong entry {wrong} is not found on small channels"
+        if wrong == "PARKED" and not any("removed" in fault for fault in found):
             yield f"the wrong entry {wrong} is not found where the parked pins are removed"
 
 
@@ -185,12 +206,13 @@ def reader_faults(first_difference):
 
 def compare(first_difference, lacking):
     """The first fault of the comparison, or None; and what was tried, in words."""
-    faults = [*form_checks.faults(), *program_faults(first_difference), *entry_faults(first_difference),
-              *buffer_faults(), *search_faults(), *parked_entry_faults(first_difference),
+    faults = [*form_checks.faults(), *looks_checks.faults(), *program_faults(first_difference),
+              *entry_faults(first_difference), *buffer_faults(), *search_faults(),
+              *parked_entry_faults(first_difference), *looks_entry_faults(first_difference),
               *parked_record_faults(first_difference), *reader_faults(first_difference)]
     if lacking({1, 2}, {1, 2, 3}) is None or lacking({1, 2}, {1, 2}):
         faults.append("a number that is never answered is not told")
     return faults[0] if faults else None, (
-        "the form is as its states say; wrong answers of programs and entries, spoilt buffers, a wrong search, readers"
-        " that get spaces or line ends wrong, and records, copper, steps, density and a judge that get parked pins"
-        " wrong are found and shown")
+        "the form is as its states say, and looks as they are counted one by one; wrong answers of programs and"
+        " entries, spoilt buffers, a wrong search, readers that get spaces or line ends wrong, records, copper, steps,"
+        " density and a judge that get parked pins wrong, and wrong looks and ceilings are found and shown")

@@ -49,3 +49,19 @@ uint64_t cabjirt_judge(const uint32_t *top, size_t top_length, const uint32_t *b
 }
 
 uint64_t cabjirt_blank(uint32_t tracks) { return told(14, tracks); }
+
+/* A changed BOT. */
+uint64_t cabjirt_looks(const uint32_t *top, size_t top_length, const uint32_t *bot, size_t bot_length)
+{
+    (void)top, (void)top_length;
+    spoil((uint32_t *)bot, (ptrdiff_t)(bot_length * sizeof *bot) - 1);
+    return told(0, 1);
+}
+
+/* A changed TOP. */
+uint64_t cabjirt_ceiling(const uint32_t *top, size_t top_length, const uint32_t *bot, size_t bot_length)
+{
+    (void)bot, (void)bot_length;
+    spoil((uint32_t *)top, (ptrdiff_t)(top_length * sizeof *top) - 1);
+    return told(0, 3);
+}

@@ -30,6 +30,18 @@ static struct verdict find_bounds(struct answer *answer)
     return verdict;
 }
 
+static struct verdict count_looks(struct answer *answer)
+{
+    return verdict_of(cabjirt_looks(answer->rows[TOP_ROW], answer->width, answer->rows[BOT_ROW], answer->width),
+                      &answer->looks);
+}
+
+static struct verdict find_ceiling(struct answer *answer)
+{
+    return verdict_of(cabjirt_ceiling(answer->rows[TOP_ROW], answer->width, answer->rows[BOT_ROW], answer->width),
+                      &answer->ceiling);
+}
+
 static struct verdict route(struct answer *answer)
 {
     uint32_t value = 0;
@@ -47,6 +59,10 @@ void answer_pins(const struct pin_text *pins, struct answer *answer)
     answer->verdict = read_text(text, pin_text_compose(pins, text), answer->rows, &answer->width);
     if (!answer->verdict.refused)
         answer->verdict = find_bounds(answer);
+    if (!answer->verdict.refused)
+        answer->verdict = count_looks(answer);
+    if (!answer->verdict.refused)
+        answer->verdict = find_ceiling(answer);
     if (!answer->verdict.refused)
         answer->verdict = route(answer);
     if (!answer->verdict.refused)

@@ -14,11 +14,12 @@ struct verdict {
     uint32_t number, place;
 };
 
-/* The answer to a pin list. Under refusal 7 the rows, the width, the bounds and the ring hold; under another refusal
- * none of them does. */
+/* The answer to a pin list. Under refusal 7 the rows, the width, the bounds, the looks with their ceiling and the ring
+ * hold; under another refusal none of them does. */
 struct answer {
     struct verdict verdict;
     uint32_t width, tracks, pieces, blank, density, chain;
+    uint32_t looks, ceiling; /* the looks of the routing, and the most that so many nets take */
     uint32_t rows[ROWS][CABJIRT_ROW];
     uint32_t ring[CABJIRT_RING];
     uint8_t board[CABJIRT_BOARD];

@@ -3,7 +3,8 @@ import os
 
 from order_drawing import A, B, damaged, drawing, text_of, written
 from order_keys import (BOT_MARKS, DRAWING, ENTER, ERASE, ESCAPE, JUDGE, KEYS, LOAD, MESSAGE, MORE, ORDER, PITCH, QUIT,
-                        SAVE, SAVE_PINS, TAB, TITLE, TOP_MARKS, UNDO, VERDICT, columns, expect_rows, leave, paste)
+                        SAVE, SAVE_PINS, TAB, TITLE, TOP_MARKS, UNDO, VERDICT, columns, expect_message, expect_rows,
+                        leave, paste)
 from pseudo_terminal import Session, check
 
 NOT_SAVED = "List not saved. "
@@ -22,7 +23,7 @@ def saving(s, folder):
     s.type(SAVE + "b.board" + ENTER)
     s.expect_start("replace?", MESSAGE, "This file exists. Replace (y or n)?")
     s.type("n")
-    s.expect_line("not replaced", MESSAGE, "not saved")
+    expect_message(s, "not replaced", "not saved")
     check("the old file stays", (folder / "b.board").read_bytes(), b"old")
     s.type(SAVE + "b.board" + ENTER + "y")
     s.expect_start("replaced", MESSAGE, "saved 124 bytes as b.board")
@@ -83,7 +84,7 @@ def completing(s, folder):
     s.expect("no such name: a bell", lambda: s.grid.bells, bells + 1)
     s.expect_line("the name stays", MESSAGE, "Load the pin list from file: some/folder/list.x")
     s.type(ERASE + "p" + TAB + ENTER)
-    s.expect_line("the completed name is loaded", MESSAGE, "loaded some/folder/list.pins")
+    expect_message(s, "the completed name is loaded", "loaded some/folder/list.pins")
 
 
 def judging(s, folder):
@@ -126,7 +127,7 @@ def refused_files(s, folder):
     s.type(LOAD + "text" + ENTER)
     s.expect_start("70,000 bytes", MESSAGE, "REFUSED 0 65536  too long: not loaded, text has more")
     s.type(LOAD + "." + ENTER)
-    s.expect_line("a folder", MESSAGE, "cannot read .: not a regular file")
+    expect_message(s, "a folder", "cannot read .: not a regular file")
 
 
 def full_disk(folder):
@@ -137,9 +138,9 @@ def full_disk(folder):
     s.expect_start("started", VERDICT, "width 7")
     for key in (SAVE, SAVE_PINS):
         s.type(key + "old" + ENTER + "y")
-        s.expect_line("no room for the file", MESSAGE, "cannot write old: File too large")
+        expect_message(s, "no room for the file", "cannot write old: File too large")
         s.type(key + "new" + ENTER)
-        s.expect_line("no room for a new file", MESSAGE, "cannot write new: File too large")
+        expect_message(s, "no room for a new file", "cannot write new: File too large")
     check("the old file is as it was", (folder / "old").read_bytes(), b"old")
     check("no other file is left", sorted(os.listdir(folder)), before)
     s.type(QUIT)

@@ -3,8 +3,8 @@ import random
 
 from cases_pipe import piped
 from order_drawing import A
-from order_keys import (BOT_LINE, DELETE, DOWN, END, ERASE, GUTTER, MARK, MESSAGE, MORE, ORDER, PITCH, REDO, TITLE,
-                        TOP_LINE, TOP_MARKS, UNDO, VERDICT, expect_cursor, expect_rows, fill, leave, paste)
+from order_keys import (BOT_LINE, DELETE, DOWN, END, ERASE, GUTTER, MARK, MORE, ORDER, PITCH, REDO, TITLE, TOP_LINE,
+                        TOP_MARKS, UNDO, VERDICT, expect_cursor, expect_message, expect_rows, fill, leave, paste)
 from order_lists import BOT_ONLY, CR_LF, ENDS, TOP_ONLY, expect_saved, load, padded
 from pseudo_terminal import Session, check
 
@@ -13,7 +13,7 @@ RETURNS = b"TOP 1 1\r\nBOT 0 0\r\n"
 
 def loading(s, folder):
     """The carriage return of a line's end is no byte of the row, and is saved again."""
-    s.expect_line("started on a file", MESSAGE, "loaded returns" + CR_LF)
+    expect_message(s, "started on a file", "loaded returns" + CR_LF)
     s.expect_start("the board is there", VERDICT, "width 2  tracks 1  blank 8  density 1  chain 1  pieces 5")
     expect_rows(s, "no carriage return is shown", [1, 1], [0, 0])
     s.type(END)

@@ -2,7 +2,7 @@
 from order_drawing import A, drawing, text_of, written
 from order_keys import (BOT_LINE, BOT_MARKS, CLEAR, DOWN, DRAWING, END, ERASE, HELP, HOME, KEYS, LEFT, MARK,
                         MESSAGE, MORE, ORDER, PITCH, REDO, RIGHT, RULER, SAVE, TITLE, TOP_LINE, TOP_MARKS, UNDO, UP,
-                        VERDICT, columns, expect_rows, fill, leave, paste, row)
+                        VERDICT, columns, expect_message, expect_rows, fill, leave, paste, row)
 from pseudo_terminal import Session, check
 
 ONLY_DIGITS = "a pin list has digits and spaces only"
@@ -64,9 +64,9 @@ def letters(s):
     bells = s.grid.bells
     for key in ("x", "-", "\xe9", "T"):
         s.type(key)
-        s.expect_line(f"{key!r} is refused", MESSAGE, ONLY_DIGITS)
+        expect_message(s, f"{key!r} is refused", ONLY_DIGITS)
         s.type(LEFT + RIGHT)
-        s.expect_line("the message goes", MESSAGE, "")
+        expect_message(s, "the message goes", "")
     expect_rows(s, "the rows are as they were", A[0], [1, 2, 0, 0])
     check("a bell for each letter", s.grid.bells >= bells + 4, True)
     s.type("\x1b[99;9x\x1b[15;5~\x1bOz\x1bk")
@@ -119,7 +119,7 @@ def pasting(s):
     for name, text, due in (("letters", "1 x 2", ONLY_DIGITS), ("a label amid", "1\nTOP 2\n", ONLY_DIGITS),
                             ("three lines", "1\n2\n3", "a pin list has two lines: the pasted text was not taken")):
         s.type(paste(text))
-        s.expect_line(f"{name}: refused", MESSAGE, due)
+        expect_message(s, f"{name}: refused", due)
         expect_rows(s, f"{name}: rows as before", *A)
     s.type(paste("BOT 4 5\n"))
     expect_rows(s, "one row with its label", A[0], [4, 5])

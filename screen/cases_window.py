@@ -173,8 +173,12 @@ def environment(folder):
         check(f"{kind}: lines, no escapes", (b"width 1  tracks 0" in said, b"\x1b" in said), (True, False))
 
 
+def has_utf8():
+    return "C.utf8" in subprocess.run(["locale", "-a"], stdout=subprocess.PIPE, text=True, check=False).stdout.split()
+
+
 def unicode_glyphs(folder):
-    if "C.utf8" not in subprocess.run(["locale", "-a"], stdout=subprocess.PIPE, text=True, check=False).stdout.split():
+    if not has_utf8():
         return
     s = Session(ORDER, "b.pins", folder=folder, LC_ALL="C.UTF-8")
     table = str.maketrans("-|+o", "\u2500\u2502\u253c\u25cf")

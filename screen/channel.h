@@ -75,6 +75,15 @@ uint64_t cabjirt_bounds(const uint32_t *top, size_t top_length, const uint32_t *
 uint64_t cabjirt_route(const uint32_t *top, size_t top_length, const uint32_t *bot, size_t bot_length, uint32_t *ring,
                        size_t ring_length, uint8_t *board, size_t board_length);
 
+/* How many looks the routing of a channel takes, tangled or not: the fill scans the nets not placed yet once for each
+ * track, and each net of each scan is a look, the last scan of a tangled channel, which places none, included. Value:
+ * the looks, never above the ceiling. Refusals 3 to 5. */
+uint64_t cabjirt_looks(const uint32_t *top, size_t top_length, const uint32_t *bot, size_t bot_length);
+
+/* The ceiling of the looks, for a progress bar. Value: n * (n + 1) / 2 for n nets whose pins stand in more than one
+ * column, at most 130816. Refusals 3 to 5. */
+uint64_t cabjirt_ceiling(const uint32_t *top, size_t top_length, const uint32_t *bot, size_t bot_length);
+
 /* Judges a board file of exactly board_length bytes, tangled channels included. Value: its tracks. Refusals 1, 3 to 5
  * and 8 to 10, and faults 11 to 13. */
 uint64_t cabjirt_judge(const uint32_t *top, size_t top_length, const uint32_t *bot, size_t bot_length,

@@ -87,6 +87,13 @@ void order_remedy(const struct order *order, char remedy[MESSAGE_MOST])
         snprintf(remedy, MESSAGE_MOST, "What to do: %s.", order->finding.remedy);
 }
 
+void order_looks(const struct order *order, size_t across, struct looks_bar *bar)
+{
+    *bar = (struct looks_bar){"", 0, 0};
+    if (!order->judged.shown && answer_has_rows(&order->answer))
+        looks_bar(order->answer.looks, order->answer.ceiling, across, bar);
+}
+
 /* Says why a file with no two labelled lines is no pin list. */
 static void say_garbled(struct order *order, const char *path, const uint8_t *text, size_t length)
 {

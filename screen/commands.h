@@ -5,6 +5,7 @@
 #include "answer.h"
 #include "board_view.h"
 #include "files.h"
+#include "looks_bar.h"
 #include "parked.h"
 #include "refusals.h"
 
@@ -47,6 +48,10 @@ void order_summary(const struct order *order, char summary[MESSAGE_MOST]);
 
 /* "What to do: .." about the refusal that is shown, or nothing. */
 void order_remedy(const struct order *order, char remedy[MESSAGE_MOST]);
+
+/* The looks of the list's routing and their ceiling, in at most so many cells; or nothing, where the list has no rows
+ * or the board that is shown is not its own. */
+void order_looks(const struct order *order, size_t across, struct looks_bar *bar);
 
 /* Each of these leaves its message. FAILED is the system's doing, REFUSED the shop's. */
 

@@ -3,7 +3,7 @@
 #include <stdio.h>
 #include <string.h>
 
-enum { PARKED_ACROSS = 100 };
+enum { LOOKS_ACROSS = 60, PARKED_ACROSS = 100 };
 
 char printable(uint8_t byte)
 {
@@ -95,6 +95,14 @@ static void print_ring(const struct answer *answer)
     }
 }
 
+static void print_looks(const struct order *order)
+{
+    struct looks_bar bar;
+    order_looks(order, LOOKS_ACROSS, &bar);
+    if (bar.text[0] != '\0')
+        printf("%s\n", bar.text);
+}
+
 void print_parked(const struct order *order)
 {
     char words[PARKED_WORDS];
@@ -111,6 +119,7 @@ bool print_order(const struct order *order)
     print_rows(order);
     order_summary(order, text);
     printf("%s\n", text);
+    print_looks(order);
     print_parked(order);
     order_remedy(order, text);
     if (text[0] != '\0')

@@ -1,4 +1,5 @@
 """Keys, lines and questions of the full screen, for its tests."""
+import re
 from pathlib import Path
 
 ORDER = Path(__file__).resolve().parent.parent / "target" / "order_tested"  # its own, also where another is built
@@ -37,6 +38,12 @@ def fill(s, top, bot):
 
 def expect_rows(s, what, top, bot):
     s.expect_lines(what, TOP_LINE, [row("TOP", top), row("BOT", bot)])
+
+
+def expect_message(s, what, due):
+    """Waits for a message; a bar of looks may stand in what is left of its line."""
+    bar = re.compile(r"(^|  )looks \d+ of at most \d+( \[#* *\])?$")
+    s.expect(what, lambda: bar.sub("", s.grid.line(MESSAGE)), due)
 
 
 def expect_cursor(s, what, y, x):

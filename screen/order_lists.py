@@ -1,7 +1,7 @@
 """Padded lists and their line ends, loaded and saved as files, for the tests of the full screen."""
 import itertools
 
-from order_keys import ENTER, LOAD, MESSAGE, PITCH, SAVE_PINS
+from order_keys import ENTER, LOAD, PITCH, SAVE_PINS, expect_message
 from pseudo_terminal import check
 
 NAMES = (f"list{n}" for n in itertools.count())
@@ -22,12 +22,12 @@ def load(s, folder, text, told="", unsaved=False):
     name = next(NAMES)
     (folder / name).write_bytes(text)
     s.type(LOAD + name + ENTER + ("y" if unsaved else ""))
-    s.expect_line(f"loaded {text[:60]}", MESSAGE, f"loaded {name}{told}")
+    expect_message(s, f"loaded {text[:60]}", f"loaded {name}{told}")
 
 
 def expect_saved(s, folder, what, due, told=""):
     """Saves the list as a file of its own, and looks at its bytes."""
     name = next(NAMES)
     s.type(SAVE_PINS + name + ENTER)
-    s.expect_line(f"{what}: saved", MESSAGE, f"saved {len(due)} bytes as {name}{told}")
+    expect_message(s, f"{what}: saved", f"saved {len(due)} bytes as {name}{told}")
     check(what, (folder / name).read_bytes(), due)

@@ -134,6 +134,50 @@ static void parking(void)
     expect_same("its ring", ring, (const uint32_t[]){1, 1, 2, 2}, 4 * sizeof *ring);
 }
 
+static void expect_looks(const char *what, const char *text, uint32_t looks, uint32_t ceiling)
+{
+    size_t width = cabjirt_value(read_text(text));
+    expect(what, cabjirt_looks(top, width, bot, width), 0, looks);
+    expect(what, cabjirt_ceiling(top, width, bot, width), 0, ceiling);
+}
+
+/* Looks and ceiling of rows of these lengths, BOT with a high number in column 2. */
+static void expect_no_looks(const char *what, size_t top_length, size_t bot_length, uint32_t number, uint32_t place)
+{
+    static const uint32_t over[CABJIRT_ROW + 1], under[CABJIRT_ROW + 1] = {0, 512};
+    expect(what, cabjirt_looks(over, top_length, under, bot_length), number, place);
+    expect(what, cabjirt_ceiling(over, top_length, under, bot_length), number, place);
+}
+
+/* The chain of 511 nets, each above the next, takes the most looks that there are. */
+static void looking_down_a_chain(void)
+{
+    uint32_t over[CABJIRT_ROW] = {1}, under[CABJIRT_ROW] = {0};
+    for (uint32_t i = 1; i < CABJIRT_ROW; i++) {
+        over[i] = i < 511 ? i : 0;
+        under[i] = i < 511 ? i + 1 : 511;
+    }
+    expect("looks of a chain", cabjirt_looks(over, CABJIRT_ROW, under, CABJIRT_ROW), 0, 130816);
+    expect("ceiling of a chain", cabjirt_ceiling(over, CABJIRT_ROW, under, CABJIRT_ROW), 0, 130816);
+}
+
+static void looking(void)
+{
+    expect_looks("looks and ceiling of B", "TOP 0 1 6 1 2 3 5\nBOT 6 3 5 4 0 2 4\n", 18, 21);
+    expect_looks("looks and ceiling of C", "TOP 1 2\nBOT 2 1\n", 2, 3);
+    expect_looks("looks and ceiling of D", "TOP 1 2 3 1\nBOT 2 3 2 0\n", 3, 6);
+    expect_looks("looks and ceiling of E", "TOP 1 0 1 2 0 2\nBOT 0 3 0 0 3 0\n", 4, 6);
+    expect_looks("looks, no net spans", "TOP 5 0 7\nBOT 5 0 0\n", 0, 0);
+    expect_looks("looks, a ring above a track", "TOP 1 2 3 3\nBOT 2 1 0 0\n", 5, 6);
+    expect_looks("looks, parked pins beside it", "TOP 4 1 2 3 3\nBOT 1 2 1 5 0\n", 5, 6);
+    expect_no_looks("looks, too wide", CABJIRT_ROW + 1, 0, 3, CABJIRT_ROW + 1);
+    expect_no_looks("looks, uneven", 3, 2, 4, 3);
+    expect_no_looks("looks, high net", 2, 2, 5, 4);
+    expect("looks, empty", cabjirt_looks(NULL, 0, NULL, 0), 4, 1);
+    expect("ceiling, empty", cabjirt_ceiling(NULL, 0, NULL, 0), 4, 1);
+    looking_down_a_chain();
+}
+
 static void blanks(void)
 {
     expect("blank 0", cabjirt_blank(0), 0, 8);
@@ -149,6 +193,7 @@ int main(void)
     routing();
     judging();
     parking();
+    looking();
     blanks();
     printf("C entries: %d passed, %d failed\n", passed, failed);
     return failed != 0;

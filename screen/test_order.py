@@ -15,6 +15,7 @@ sys.path.insert(0, str(Path(__file__).resolve().parent))
 import cases_build  # noqa: E402
 import cases_files  # noqa: E402
 import cases_line_ends  # noqa: E402
+import cases_looks  # noqa: E402
 import cases_padded  # noqa: E402
 import cases_parked  # noqa: E402
 import cases_pipe  # noqa: E402
@@ -26,7 +27,7 @@ import pseudo_terminal  # noqa: E402
 def main():
     try:
         for cases in (cases_build, cases_typing, cases_files, cases_window, cases_pipe, cases_parked, cases_padded,
-                      cases_line_ends):
+                      cases_line_ends, cases_looks):
             with tempfile.TemporaryDirectory() as name:
                 cases.run(Path(name))
     except (pseudo_terminal.Failure, subprocess.TimeoutExpired) as failure:

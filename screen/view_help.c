@@ -17,6 +17,8 @@ static const char *const help[] = {
     "A paste of two lines fills both rows.",
     "In the drawing: o joint, + crossing without a joint.",
     "p marks a parked pin: its number stands just once, and it gets no copper.",
+    "The bar: looks that the routing took, of the most that so many nets take.",
+    "For each track the router looks once at every net that is not placed yet.",
 };
 
 /* Two lines are the most that an entry takes in the narrowest window. */

@@ -106,12 +106,26 @@ void view_choices(const struct screen *screen)
     paint_lines(LINE_DRAWING, LINE_DRAWING + (int)view_lines(), 2, screen->prompt.choices, STYLE_PLAIN);
 }
 
+/* The bar of looks, from cell x on. The filled part is bold; where a terminal shows none, its signs tell it from the
+ * rest. */
+static void put_looks(const struct order *order, int y, int x)
+{
+    struct looks_bar bar;
+    int across = paint_across();
+    order_looks(order, x < across ? (size_t)(across - x) : 0, &bar);
+    paint_text(y, x, across, bar.text, STYLE_PLAIN);
+    for (size_t i = bar.filled; i < bar.filled_end; i++)
+        paint_glyph(y, x + (int)i, (wchar_t)bar.text[i], STYLE_STRONG);
+}
+
 int view_message(const struct screen *screen)
 {
     const struct prompt *prompt = &screen->prompt;
+    const struct order *order = screen->order;
     int y = paint_rows() - BOTTOM_LINES, across = paint_across();
     if (prompt->kind == PROMPT_NONE) {
-        paint_text(y, 0, across, screen->order->message, screen->message_is_bad ? STYLE_BAD : STYLE_PLAIN);
+        int end = paint_text(y, 0, across, order->message, screen->message_is_bad ? STYLE_BAD : STYLE_PLAIN);
+        put_looks(order, y, end > 0 ? end + 2 : 0);
         return 0;
     }
     int x = paint_text(y, 0, across, prompt_question(prompt), STYLE_STRONG);

@@ -45,7 +45,8 @@ void view_too_small(const struct screen *screen);
 /* The line of the drawing that stands in the i-th line of its place. Where not all fit, the pins stay in sight. */
 size_t view_line_shown(const struct screen *screen, const struct board_view *view, size_t i);
 
-/* A question with its answer so far, or what came of the last command. Answers the cell after it. */
+/* A question with its answer so far; or what came of the last command, and the bar of looks in the room that is left.
+ * Answers the cell in which a question's answer goes on. */
 int view_message(const struct screen *screen);
 
 #endif

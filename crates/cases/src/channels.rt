@@ -15,6 +15,7 @@ use refusal::RECORD_TRAY;
 use refusal::RING_TRAY;
 use refusal::Refusal;
 use refusal::SCRATCH_TRAY;
+use router::LooksAnswer;
 use router::RouteAnswer;
 
 fn put_check(top: &[u32], bot: &[u32]) {
@@ -75,6 +76,13 @@ fn doubled(n: usize) -> usize
     2 * n
 }
 
+// How many looks the routing took.
+fn put_looks(looks: usize) {
+    output::put_word(b"LOOKS");
+    output::put_field(looks as u64);
+    output::put_word(b"\n");
+}
+
 // Routes rows; the ring buffer holds 7777 everywhere before.
 fn put_fill(top: &[u32], bot: &[u32]) {
     let mut ring = [output::MARK; RING_TRAY];
@@ -93,6 +101,26 @@ fn put_fill(top: &[u32], bot: &[u32]) {
         }
         RouteAnswer::Refused(refusal) => put_unfilled(refusal, &ring),
     }
+    put_looks(routing.looks);
+}
+
+// A number of looks, or a refusal.
+fn put_told(answer: LooksAnswer) {
+    match answer {
+        LooksAnswer::Looks(n) => {
+            output::put_field(0);
+            output::put_field(n as u64);
+            output::put_word(b"\n");
+        }
+        LooksAnswer::Refused(refusal) => output::put_refusal(refusal),
+    }
+}
+
+fn put_progress(top: &[u32], bot: &[u32]) {
+    output::put_word(b"LOOKS");
+    put_told(router::looks(top, bot));
+    output::put_word(b"CEILING");
+    put_told(router::ceiling(top, bot));
 }
 
 fn put_judged(top: &[u32], bot: &[u32], board: &[u8]) {
@@ -117,6 +145,7 @@ fn ask(kind: u8, top: &[u32], bot: &[u32], board: &[u8]) {
         4 => put_check(top, bot),
         5 => put_bounds(top, bot),
         6 => put_fill(top, bot),
+        8 => put_progress(top, bot),
         _ => put_judged(top, bot, board),
     }
 }
@@ -180,6 +209,12 @@ pub fn answer_fill(bytes: &[u8]) -> bool
     ensures { λ r. ⌜ r ≡ rowsWhole (now (bytes .entry)) ⌝ }
 {
     ask_sized(6, bytes, b"")
+}
+
+pub fn answer_looks(bytes: &[u8]) -> bool
+    ensures { λ r. ⌜ r ≡ rowsWhole (now (bytes .entry)) ⌝ }
+{
+    ask_sized(8, bytes, b"")
 }
 
 // The length of the rows' bytes in two bytes, the rows, and a board.

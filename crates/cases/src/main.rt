@@ -20,6 +20,7 @@ fn answer(kind: u8, bytes: &[u8]) -> bool {
         5 => channels::answer_bounds(bytes),
         6 => channels::answer_fill(bytes),
         7 => channels::answer_judge(bytes),
+        8 => channels::answer_looks(bytes),
         _ => false,
     }
 }

@@ -1,6 +1,6 @@
--- 01, "Bench examples (* proved)", and 02, Req 01 and Req 04: A to J, and K, come out of the definitions as the paper
--- prints them, padded lists with CR LF as Req 01 says, and channels with parked pins as Req 04 says, by one computed
--- check.
+-- 01, "Bench examples (* proved)", and 02, Reqs 01, 04 and 07: A to J, and K, come out of the definitions as the paper
+-- prints them, padded lists with CR LF as Req 01 says, channels with parked pins as Req 04 says, and looks as Req 07
+-- says, by one computed check.
 use Prim.Native.Nat.{ℕ, zero, suc}
 use mathlib.Core.Path.{_≡_, refl}
 use mathlib.Core.List.{List, [], _∷_, _++_, map}
@@ -27,8 +27,9 @@ use Rattle.pinlist.specs.Reader.{afterNumber, firstDigit, lineStep, topStep, bo
 use Rattle.pinlist.specs.Answers.{garbledRefusal, channelOf, textChannel, textRefusal}
 use Rattle.leftedge.specs.Items.{isPlaced, trackOf, fits, clearBelow}
 use Rattle.leftedge.specs.Fill.{scan, orElse, fillFrom, fillItems}
+use Rattle.leftedge.specs.Looks.{looksFrom, itemLooks, ceiling}
 use Rattle.leftedge.specs.Walk.{firstDrop, fromVisit, walk, ringOf, ringNumbers}
-use Rattle.leftedge.specs.Nets.{fillOrder, netItems, fill, recordOf, records}
+use Rattle.leftedge.specs.Nets.{fillOrder, netItems, fill, looks, recordOf, records}
 use Rattle.boardfile.specs.Encode.{word, header, fields, pieceWord, encode}
 use Rattle.boardfile.specs.Open.{wordAt, fileWidth, fileTracks, fileCount, fileSpare, headerOf, fieldsOf, wordRight}
 use Rattle.boardfile.specs.Open.{pieceOf, torn, badField, openRefusal, piecesFrom, fileLayout}
@@ -39,7 +40,8 @@ use Rattle.judge.specs.Answers.{wrongBoard, judgeRefusal, judged, judgeAnswer, 
 use Rattle.blanks.specs.Stock.{stock, smallestFor, noBlank}
 use Rattle.drawing.specs.Draw.{branchIn, drawColumn, drawSpan, drawStraight, drawNet, draw}
 use Rattle.router.specs.Route.{ringShown, tangled, layoutDrawn, recordsMade, routeTrays, routeRefusal, routeAnswer}
-use Rattle.router.specs.Route.{filledUnder7, ringAfter, routeTold}
+use Rattle.router.specs.Route.{filledUnder7, ringAfter, looksUnless, looksAnswered, routeTold}
+use Rattle.router.specs.Progress.{looksAnswer, ceilingAnswer, looksTold}
 use Rattle.text.specs.Lines.{lineOf as textLine}
 use Rattle.report.specs.Lines.{refusedLine, toldLine, ringLines, boardLine, boundLine, netLine, endLine}
 use Rattle.programs.specs.Programs.{withinLimit, ofPinList, ofFilled, listing, judgeLines}
@@ -118,6 +120,17 @@ tracks text = map (λ r. r .track .0) (recordsMade (textChannel text) (fill (tex
 abbrev pairs : List ℕ → List ℕ
 pairs text = ringNumbers (ringShown (textChannel text) (fill (textChannel text)))
 
+-- 02, Req 07: the looks that the router answers, those told of rows alone, and their ceiling
+abbrev looked : List ℕ → List ℕ
+looked text =
+    let ch = textChannel text in
+    looksAnswered (routeTrays 1022 10240) ch
+    ∷ (looksTold (looksAnswer ch) .values ++ looksTold (ceilingAnswer ch) .values)
+
+-- C beside a net that is placed: the scan for track 1 places that net alone, the one for track 2 none
+abbrev besideC : List ℕ
+besideC = bytes "TOP 1 2 3 3\nBOT 2 1 0 0\n"
+
 -- density and chain
 abbrev bound : List ℕ → List ℕ
 bound text = boundsTold (boundsAnswer (textChannel text)) .values
@@ -176,6 +189,22 @@ pub starred :
     ∷ same (judgedWith opposite (λ ps. ps)) (0 ∷ 1 ∷ [])
     ∷ same (judgedWith between (λ ps. ps ++ (stub ∷ []))) (0 ∷ 1 ∷ [])
     ∷ same (judgedWith between (λ ps. ps ++ (stub ∷ Contact (column 2) (track 1) ∷ []))) (11 ∷ 2 ∷ [])
+    -- the unplaced nets as each scan of B begins: 6, of which track 1 takes net 4; 5, net 5; 4, nets 2 and 6; 2, net 3;
+    -- and 1, net 1. Together 18, of at most 6 * 7 / 2 = 21
+    ∷ same (looked textB) (18 ∷ 18 ∷ 21 ∷ [])
+    -- in C each of two nets is above the other: one scan, of both, which stays empty; at most 2 * 3 / 2 = 3
+    ∷ same (looked textC) (2 ∷ 2 ∷ 3 ∷ [])
+    -- in D net 1 is above net 2, and nets 2 and 3 are above each other: one scan, of all three, which stays empty; at
+    -- most 3 * 4 / 2 = 6
+    ∷ same (looked textD) (3 ∷ 3 ∷ 6 ∷ [])
+    -- the unplaced nets as each scan of E begins: 3, of which track 1 takes nets 1 and 2; and 1, net 3. Together 4, of
+    -- at most 6
+    ∷ same (looked textE) (4 ∷ 4 ∷ 6 ∷ [])
+    -- 3, of which track 1 takes net 3; and 2, of which track 2 takes none. Together 5, of at most 6
+    ∷ same (looked besideC) (5 ∷ 5 ∷ 6 ∷ [])
+    -- a straight net has no span, and a parked one neither
+    ∷ same (looked textG) (0 ∷ 0 ∷ 0 ∷ [])
+    ∷ same (looked textL) (0 ∷ 0 ∷ 0 ∷ [])
     ∷ [])
     ≡ true
 unfolding
@@ -187,6 +216,7 @@ unfolding
     tooWide uneven highNet rowsRefusal boundsAnswer boundsTold columnOf rowOf netOf pinTouches
     afterNumber firstDigit lineStep topStep botStep step atEnd readFrom readText garbledRefusal channelOf textRefusal
     isPlaced trackOf fits clearBelow scan orElse fillFrom fillItems firstDrop fromVisit walk ringOf ringNumbers starting
+    looksFrom itemLooks ceiling looks
     fillOrder netItems fill recordOf records
     word header fields pieceWord encode wordAt fileWidth fileTracks fileCount fileSpare headerOf fieldsOf wordRight
     pieceOf torn badField openRefusal piecesFrom fileLayout
@@ -194,7 +224,7 @@ unfolding
     floating faultAtFirst finding
     wrongBoard judgeRefusal judged judgeAnswer faultNumber faultPlace judgeTold stock smallestFor noBlank
     branchIn drawColumn drawSpan drawStraight drawNet draw ringShown tangled layoutDrawn recordsMade routeRefusal
-    routeAnswer filledUnder7 ringAfter routeTold
+    routeAnswer filledUnder7 ringAfter looksUnless looksAnswered routeTold looksAnswer ceilingAnswer looksTold
     textLine refusedLine toldLine ringLines boardLine boundLine netLine endLine
     withinLimit ofPinList ofFilled listing listingOutput boardOutput judgeLines judgeOutput
 starred = refl

@@ -16,7 +16,7 @@ use Rattle.leftedge.specs.declared.Filled.{Filled}
 use Rattle.leftedge.specs.Items.{trackOf}
 use Rattle.leftedge.specs.Fill.{Filling, filled, stuck}
 use Rattle.leftedge.specs.Walk.{ringOf, ringNumbers}
-use Rattle.leftedge.specs.Nets.{fillOrder, netItems, fill}
+use Rattle.leftedge.specs.Nets.{fillOrder, netItems, fill, looks}
 use Rattle.leftedge.specs.Invariants.{StuckWith}
 use Rattle.leftedge.specs.Columns.{ColumnsDue}
 
@@ -36,11 +36,13 @@ tracksBy (filled t ps) = map track (each512 (trackOf ps))
 tracksBy (stuck left) = replicate 512 (track 0)
 
 -- What `fill_tracks` answers, and what the ring buffer then holds. Rules out: a fill that puts all nets on its first
--- track (tracks); first and last columns exchanged (spans); a ring begun at the highest unplaced net (held).
+-- track (tracks); first and last columns exchanged (spans); a ring begun at the highest unplaced net (held); the last
+-- scan not counted where it stays empty (looks).
 pub record FillDone (ch : Channel) (ring : List ℕ) (r : Filled) (ring′ : List ℕ) : Type 0 where
   pub outcome : r .outcome ≡ outcomeOf ch (fill ch)
   pub spans : SpansFound ch (r .spans)
   pub tracks : r .tracks ≡ tracksBy (fill ch)
+  pub looks : r .looks ≡ looks ch
   pub held : ring′ ≡ ringHeld ch (fill ch) ring
 
 -- where the fill of a channel's nets begins: its own copy of the columns, which is shown equal to those due in the net

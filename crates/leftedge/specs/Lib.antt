@@ -1,5 +1,6 @@
 pub mod Items
 pub mod Fill
+pub mod Looks
 pub mod FillEnds
 pub mod Walk
 pub mod Nets
@@ -7,6 +8,7 @@ pub mod Invariants
 pub mod TrackLaws
 pub mod ScanLaws
 pub mod FillLaws
+pub mod LookLaws
 pub mod WalkLaws
 pub mod SpanFill
 pub mod Columns

@@ -1,7 +1,7 @@
 -- The fill of a channel's nets: what `FilledBy` and `StuckWith` say in the words of nets, spans and rings.
 use Prim.Native.Nat.{ℕ, _≤_, _<_}
 use native.Mathlib.Omega.{arith}
-use mathlib.Core.Path.{_≡_}
+use mathlib.Core.Path.{_≡_, subst}
 use mathlib.Core.List.{List}
 use lib.ListN.{length}
 use Rattle.lists.specs.Ranges.{no-member→empty}
@@ -18,13 +18,15 @@ use Rattle.channel.specs.DensityLaws.{density-densest}
 use Rattle.leftedge.specs.Items.{Place, trackOf}
 use Rattle.leftedge.specs.Fill.{filled, stuck}
 use Rattle.leftedge.specs.Walk.{ringOf}
-use Rattle.leftedge.specs.Nets.{netItems, fill}
+use Rattle.leftedge.specs.Looks.{itemLooks, ceiling}
+use Rattle.leftedge.specs.LookLaws.{looks-few}
+use Rattle.leftedge.specs.Nets.{netItems, fill, looks}
 use Rattle.leftedge.specs.Invariants.{Falls, FilledBy, StuckWith}
 use Rattle.leftedge.specs.FillLaws.{fill-filled, fill-stuck}
 use Rattle.leftedge.specs.WalkLaws.{walk-ring}
 use Rattle.leftedge.specs.SpanFill.{Spanning, tracks≤density as fewest}
 use Rattle.leftedge.specs.NetLaws.{nets-orderly, order→spanning, spanning→order, starts-inside}
-use Rattle.leftedge.specs.NetLaws.{before-starts, →fits-after}
+use Rattle.leftedge.specs.NetLaws.{order-length, before-starts, →fits-after}
 use Rattle.leftedge.specs.NetLaws.{falls→above, above→falls}
 
 module _ (ch : Channel) (esc : Escapes ch) where
@@ -35,6 +37,12 @@ module _ (ch : Channel) (esc : Escapes ch) where
   pub nets-stuck : (left : List ℕ) → fill ch ≡ stuck left → StuckWith (netItems ch) left
   unfolding fill
   nets-stuck left e = fill-stuck (netItems ch) (nets-orderly ch esc) left e
+
+  -- 02, Req 07: "For n nets with spans it is at most n times (n + 1), halved."
+  pub looks≤ceiling : looks ch ≤ ceiling (length (spanning ch))
+  unfolding looks netItems
+  looks≤ceiling =
+      subst (λ (n : ℕ). itemLooks (netItems ch) ≤ ceiling n) (order-length ch esc) (looks-few (netItems ch))
 
   falls→descends : {end : ℕ} {steps : List Step} → Descends (Falls (netItems ch)) end steps
       → Descends (Above ch) end steps

@@ -18,14 +18,14 @@ use Rattle.channel.specs.Parked.{NetsOnly}
 use Rattle.channel.specs.Spans.{SpansFound}
 use Rattle.channel.specs.SpanLaws.{spanning-small}
 use Rattle.channel.specs.StepsLaws.{nets-stepped}
-use Rattle.leftedge.specs.declared.tracks.FillEnd.{FillEnd}
 use Rattle.leftedge.specs.declared.tracks.FillEnd.the-variants as ends
+use Rattle.leftedge.specs.declared.tracks.ItemsFilled.{ItemsFilled}
 use Rattle.leftedge.specs.declared.Outcome.the-variants.{Placed, Stuck}
 use Rattle.leftedge.specs.declared.Filled.{Filled}
 use Rattle.leftedge.specs.Items.{Place, trackOf, isPlaced}
 use Rattle.leftedge.specs.Fill.{Filling, filled, stuck}
 use Rattle.leftedge.specs.Walk.{ringOf, ringNumbers}
-use Rattle.leftedge.specs.Nets.{fillOrder, netItems, fill}
+use Rattle.leftedge.specs.Nets.{fillOrder, netItems, fill, looks}
 use Rattle.leftedge.specs.NetLaws.{nets-orderly, order→spanning, spanning→order, starts-inside, order-length}
 use Rattle.leftedge.specs.NetFill.{nets-stuck}
 use Rattle.leftedge.specs.Tables.{FillBegins, endOf, FillEnds}
@@ -98,23 +98,25 @@ end-stuck (filled k ps) n e = absurd (let z : _≡_ {A = ℕ} 0 1 = cc in omega 
 end-stuck (stuck ls) n e = let same : n ≡ length ls = cc in (ls, same, refl)
 
 -- every net is placed
-pub placed-done : {ch : Channel} {end : FillEnd} {left tracks : List ℕ} {t : ℕ} {ring ring′ : List ℕ} {r : Filled}
-    → FillEnds (netItems ch) (fill ch) end left tracks → end ≡ ends.Placed t → length tracks ≡ 512 → ring′ ≡ ring
-    → r .outcome ≡ Placed t → SpansFound ch (r .spans) → r .tracks ≡ map track tracks → FillDone ch ring r ring′
-unfolding outcomeOf ringHeld tracksBy
-placed-done {ch} {tracks = tracks} {t = t} e is long untouched outcome spans held =
+pub placed-done : {ch : Channel} {q : ItemsFilled} {left tracks : List ℕ} {t : ℕ} {ring ring′ : List ℕ} {r : Filled}
+    → FillEnds (netItems ch) (fill ch) q left tracks → q .end ≡ ends.Placed t → length tracks ≡ 512 → ring′ ≡ ring
+    → r .outcome ≡ Placed t → SpansFound ch (r .spans) → r .tracks ≡ map track tracks → r .looks ≡ q .looks
+    → FillDone ch ring r ring′
+unfolding outcomeOf ringHeld tracksBy looks
+placed-done {ch} {tracks = tracks} {t = t} e is long untouched outcome spans held seen =
     let f = end-placed (fill ch) t (sym is ∙ e .end) in
     let placed = numbered (trackOf (f .0)) 512 tracks long (λ n k. e .placed t (f .0) (f .1) n (omega arith)) in
     record {
       outcome = rw (f .1) outcome;
       spans = spans;
       tracks = rw (f .1) (held ∙ ap (map track) placed);
+      looks = seen ∙ e .looks;
       held = rw (f .1) untouched;
     }
 
 -- the fill is stuck, and the ring is shown
-module _ {ch : Channel} (only : NetsOnly ch) {end : FillEnd} {left tracks : List ℕ} {n : ℕ}
-    (e : FillEnds (netItems ch) (fill ch) end left tracks) (is : end ≡ ends.Stuck n) where
+module _ {ch : Channel} (only : NetsOnly ch) {q : ItemsFilled} {left tracks : List ℕ} {n : ℕ}
+    (e : FillEnds (netItems ch) (fill ch) q left tracks) (is : q .end ≡ ends.Stuck n) where
   found : (ls : List ℕ) × (n ≡ length ls) × (fill ch ≡ stuck ls)
   found = end-stuck (fill ch) n (sym is ∙ e .end)
 
@@ -134,15 +136,16 @@ module _ {ch : Channel} (only : NetsOnly ch) {end : FillEnd} {left tracks : List
             (e .unplaced (found .0) (found .2) m (spanning→order ch (only .escapes .even) m k));
       }
 
-  pub stuck-done : {ring before ring′ : List ℕ} {r : Filled} {pairs : ℕ} → before ≡ ring
-      → RingShown ch (take n left) before pairs ring′ → r .outcome ≡ Stuck pairs → SpansFound ch (r .spans)
-      → r .tracks ≡ replicate 512 (track 0) → FillDone ch ring r ring′
-  unfolding outcomeOf ringHeld tracksBy
-  stuck-done untouched shown outcome spans bare =
+  pub stuck-done : {ring before after ring′ : List ℕ} {r : Filled} {pairs : ℕ} → before ≡ ring
+      → RingShown ch (take n left) before pairs after → ring′ ≡ after → r .outcome ≡ Stuck pairs
+      → SpansFound ch (r .spans) → r .tracks ≡ replicate 512 (track 0) → r .looks ≡ q .looks → FillDone ch ring r ring′
+  unfolding outcomeOf ringHeld tracksBy looks
+  stuck-done untouched shown stays outcome spans bare seen =
       record {
         outcome = rw stuck-there (outcome ∙ ap Stuck (shown .counted));
         spans = spans;
         tracks = rw stuck-there bare;
-        held = rw stuck-there (shown .shown ∙ ap (overlay (ringNumbers (ringOf (netItems ch) (take n left))))
-            untouched);
+        looks = seen ∙ e .looks;
+        held = rw stuck-there (stays ∙ (shown .shown ∙ ap (overlay (ringNumbers (ringOf (netItems ch) (take n left))))
+            untouched));
       }

@@ -11,6 +11,7 @@ use Rattle.channel.specs.Constraints.{drops}
 use Rattle.leftedge.specs.declared.NetRecord.{NetRecord}
 use Rattle.leftedge.specs.Items.{Items, Place, trackOf}
 use Rattle.leftedge.specs.Fill.{Filling, fillItems}
+use Rattle.leftedge.specs.Looks.{itemLooks}
 
 -- "Nets with spans are sorted by first column, then number"
 unfoldable pub fillOrder : Channel → List ℕ
@@ -22,6 +23,10 @@ netItems ch =
 
 unfoldable pub fill : Channel → Filling
 fill ch = fillItems (netItems ch)
+
+-- 02, Req 07: how many unplaced nets the fill examines, once per track scan
+unfoldable pub looks : Channel → ℕ
+looks ch = itemLooks (netItems ch)
 
 -- "a table of net records, one for each net: number, first, last, track (0 if straight), in rising number"
 unfoldable pub recordOf : Channel → List Place → ℕ → NetRecord

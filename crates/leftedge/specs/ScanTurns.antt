@@ -21,6 +21,7 @@ use Rattle.lists.specs.Counts.{lowered, lowered-length}
 use Rattle.items.specs.Chains.{Chained}
 use Rattle.items.specs.Steps.{Rises, CanLower}
 use Rattle.items.specs.StepLaws.{waiting-all, can-lower, lowered-waits}
+use Rattle.leftedge.specs.declared.tracks.Scanned.{Scanned}
 use Rattle.leftedge.specs.Items.{Items, itemsBelow, Place, isPlaced, fits, clearBelow}
 use Rattle.leftedge.specs.Fill.{Scan, scan}
 use Rattle.leftedge.specs.TrackLaws.{place, track-new, track-old, placed-cases}
@@ -30,13 +31,15 @@ use Rattle.leftedge.specs.Tables.{netAt, mayFollow, Held, ScanBegins, Sc
 abbrev after-left : List ℕ → Scan → Scan
 after-left xs s = record { placed = s .placed; left = xs ++ s .left }
 
--- after i items: `rest` of them are left, and stand at the front; `before` is the last placed on this track
+-- after i items, each counted in `looks`: `rest` of them are left, and stand at the front; `before` is the last placed
+-- on this track
 pub record SoFar (it : Items) (ps₀ : List Place) (first nets under₀ left₀ : List ℕ) (count : ℕ) (tracks₀ : List ℕ)
-    (k : ℕ) (under left tracks : List ℕ) (end net rest i : ℕ) : Type 0 where
+    (k : ℕ) (under left tracks : List ℕ) (end net rest looks i : ℕ) : Type 0 where
   pub before : Option ℕ
   pub ps : List Place
   pub long : (length under ≡ length under₀) × (length left ≡ length left₀) × (length tracks ≡ length tracks₀)
   pub near : (rest ≤ i) × (i ≤ count)
+  pub counted : looks ≡ i
   pub whole : scan it k none ps₀ (take count left₀)
       ≡ after-left (take rest left) (scan it k before ps (drop i (take count left)))
   pub held : Held it ps under tracks
@@ -47,7 +50,7 @@ pub record SoFar (it : Items) (ps₀ : List Place) (first nets under₀ left₀ 
 
 module _ {it : Items} {ps₀ : List Place} {first last nets us head next under₀ left₀ : List ℕ} {count : ℕ}
     {tracks₀ : List ℕ} (b : ScanBegins it ps₀ first last nets us head next under₀ left₀ count tracks₀) where
-  pub starts : (k : ℕ) → SoFar it ps₀ first nets under₀ left₀ count tracks₀ k under₀ left₀ tracks₀ 0 0 0 0
+  pub starts : (k : ℕ) → SoFar it ps₀ first nets under₀ left₀ count tracks₀ k under₀ left₀ tracks₀ 0 0 0 0 0
   unfolding fits mayFollow
   starts k =
       record {
@@ -55,6 +58,7 @@ module _ {it : Items} {ps₀ : List Place} {first last nets us head next under�
         ps = ps₀;
         long = (refl, refl, refl);
         near = omega arith;
+        counted = refl;
         whole = refl;
         held = b .held;
         distinct = b .distinct;
@@ -62,14 +66,20 @@ module _ {it : Items} {ps₀ : List Place} {first last nets us head next under�
         ends = λ n m f. rw (lt-ltb 0 (getD first n 0) (b .tabled .starts n m));
       }
 
-  module _ {k : ℕ} {under left tracks : List ℕ} {end net rest i : ℕ}
-      (s : SoFar it ps₀ first nets under₀ left₀ count tracks₀ k under left tracks end net rest i) where
+  module _ {k : ℕ} {under left tracks : List ℕ} {end net rest looks i : ℕ}
+      (s : SoFar it ps₀ first nets under₀ left₀ count tracks₀ k under left tracks end net rest looks i) where
     -- no item is ahead
-    pub all-seen : count ≤ i → ScanDone it (scan it k none ps₀ (take count left₀)) rest under left tracks
+    pub all-seen : count ≤ i → {r : Scanned} → (r .rest ≡ rest) × (r .looks ≡ looks)
+        → ScanDone it (take count left₀) (scan it k none ps₀ (take count left₀)) r under left tracks
     unfolding scan
-    all-seen past =
+    all-seen past {r} is =
         rw (s .whole, drop-of-length-le (take count left) {i = i} (omega (arith, length-take count left)), append-nil)
-        (record { count = sym (length-take-le rest left (omega arith)); left = refl; held = s .held })
+        (record {
+          count = is .0 ∙ sym (length-take-le rest left (omega arith));
+          looks = is .1 ∙ (s .counted ∙ (omega arith ∙ sym (length-take-le count left₀ (b .few))));
+          left = ap (λ (j : ℕ). take j left) (is .0);
+          held = s .held;
+        })
 
     module _ (more : i < count) where
       abbrev n : ℕ
@@ -125,7 +135,7 @@ module _ {it : Items} {ps₀ : List Place} {first last nets us head next under�
           → ((cs : List ℕ) → Chained next (getD head n 0) cs → under′ ≡ lowered (map (at us) cs) under)
           → (net′ : ℕ) → net′ ≡ netAt nets n
           → SoFar it ps₀ first nets under₀ left₀ count tracks₀ k under′ left (set tracks n k) (getD last n 0) net′ rest
-          (i + 1)
+          (looks + 1) (i + 1)
       unfolding fits scan isPlaced anyOf
       takes taken under′ lowers net′ same =
           record {
@@ -133,6 +143,7 @@ module _ {it : Items} {ps₀ : List Place} {first last nets us head next under�
             ps = now;
             long = (length-under ∙ s .long .0, s .long .1, length-set tracks n k ∙ s .long .2);
             near = omega arith;
+            counted = ap (λ (j : ℕ). j + 1) (s .counted);
             whole = s .whole ∙ ap (after-left (take rest left)) (rw (ahead, test, taken));
             held =
                 record {
@@ -162,7 +173,7 @@ module _ {it : Items} {ps₀ : List Place} {first last nets us head next under�
 
       pub leaves : chosen ≡ false
           → SoFar it ps₀ first nets under₀ left₀ count tracks₀ k under (set left rest n) tracks end net (rest + 1)
-          (i + 1)
+          (looks + 1) (i + 1)
       unfolding scan
       leaves passed =
           record {
@@ -170,6 +181,7 @@ module _ {it : Items} {ps₀ : List Place} {first last nets us head next under�
             ps = s .ps;
             long = (s .long .0, length-set left rest n ∙ s .long .1, s .long .2);
             near = omega arith;
+            counted = ap (λ (j : ℕ). j + 1) (s .counted);
             whole = let fits : rest < length left = omega (arith, in-tables) in
                 s .whole ∙ rw (ahead, test, passed, still, add-one rest, take-suc-set, append-assoc);
             held = s .held;

@@ -1,4 +1,4 @@
--- With its parked pins removed a channel has the same items to fill tracks with, so the same fill and ring.
+-- With its parked pins removed a channel has the same items to fill tracks with, so the same fill, looks and ring.
 use Prim.Native.Nat.{ℕ}
 use mathlib.Core.Path.{_≡_, refl, _∙_, ap, ap₂, fun-ext}
 use mathlib.Core.List.{List, map}
@@ -18,7 +18,8 @@ use Rattle.leftedge.specs.declared.Filled.{Filled}
 use Rattle.leftedge.specs.Items.{Items}
 use Rattle.leftedge.specs.Fill.{Filling, filled, stuck, fillItems}
 use Rattle.leftedge.specs.Walk.{ringOf, ringNumbers}
-use Rattle.leftedge.specs.Nets.{fillOrder, netItems, fill}
+use Rattle.leftedge.specs.Looks.{itemLooks}
+use Rattle.leftedge.specs.Nets.{fillOrder, netItems, fill, looks}
 use Rattle.leftedge.specs.Code.{outcomeOf, ringHeld, tracksBy, FillDone}
 
 module _ (ch : Channel) where
@@ -53,6 +54,10 @@ module _ (ch : Channel) where
   unfolding fill
   fill-shown = ap fillItems items-shown
 
+  pub looks-shown : looks shown ≡ looks ch
+  unfolding looks
+  looks-shown = ap itemLooks items-shown
+
   -- what the code finds and fills of the rows that show nets only is the channel's
   spans-shown : {s : Spans} → SpansFound shown s → SpansFound ch s
   spans-shown h =
@@ -77,5 +82,6 @@ module _ (ch : Channel) where
         outcome = h .outcome ∙ (outcome-shown (fill shown) ∙ ap (outcomeOf ch) fill-shown);
         spans = spans-shown (h .spans);
         tracks = h .tracks ∙ ap tracksBy fill-shown;
+        looks = h .looks ∙ looks-shown;
         held = h .held ∙ (held-shown (fill shown) ring ∙ ap (λ (f : Filling). ringHeld ch f ring) fill-shown);
       }

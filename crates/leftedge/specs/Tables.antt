@@ -11,8 +11,11 @@ use Rattle.lists.specs.Lists.{Distinct}
 use Rattle.items.specs.Steps.{waiting, Stepped}
 use Rattle.leftedge.specs.declared.tracks.FillEnd.{FillEnd}
 use Rattle.leftedge.specs.declared.tracks.FillEnd.the-variants as ends
+use Rattle.leftedge.specs.declared.tracks.ItemsFilled.{ItemsFilled}
+use Rattle.leftedge.specs.declared.tracks.Scanned.{Scanned}
 use Rattle.leftedge.specs.Items.{Items, itemsBelow, Place, isPlaced, trackOf}
 use Rattle.leftedge.specs.Fill.{Scan, Filling, filled, stuck}
+use Rattle.leftedge.specs.Looks.{itemLooks}
 use Rattle.leftedge.specs.Invariants.{Orderly}
 
 -- the net of an item; one past the end of the table is a net of its own
@@ -53,11 +56,14 @@ pub record ScanFrom (first last nets us head next under left : List ℕ) (count 
   pub ps : List Place
   pub begins : ScanBegins it ps first last nets us head next under left count tracks
 
--- What `scan_track` leaves of a scan. Rules out: an item placed in the column where its neighbour ends (held); an item
--- that is left out of those left (count).
-pub record ScanDone (it : Items) (s : Scan) (r : ℕ) (under′ left′ tracks′ : List ℕ) : Type 0 where
-  pub count : r ≡ length (s .left)
-  pub left : take r left′ ≡ s .left
+-- What `scan_track` leaves of a scan s of the items `unplaced`. Rules out: an item placed in the column where its
+-- neighbour ends (held); an item that is left out of those left (count); one that is counted only where it is placed
+-- (looks).
+pub record ScanDone (it : Items) (unplaced : List ℕ) (s : Scan) (r : Scanned) (under′ left′ tracks′ : List ℕ)
+    : Type 0 where
+  pub count : r .rest ≡ length (s .left)
+  pub looks : r .looks ≡ length unplaced
+  pub left : take (r .rest) left′ ≡ s .left
   pub held : Held it (s .placed) under′ tracks′
 
 -- where a fill begins: the first `count` of `left` are the items in the order of the scan, and none is placed
@@ -81,9 +87,10 @@ endOf (filled t ps) = ends.Placed t
 endOf (stuck left) = ends.Stuck (length left)
 
 -- What `fill_items` answers and leaves. Rules out: a fill that puts all items on its first track (placed); one that is
--- stuck and shows other items as left (left).
-pub record FillEnds (it : Items) (f : Filling) (r : FillEnd) (left′ tracks′ : List ℕ) : Type 0 where
-  pub end : r ≡ endOf f
+-- stuck and shows other items as left (left); one that does not count its last, empty scan (looks).
+pub record FillEnds (it : Items) (f : Filling) (r : ItemsFilled) (left′ tracks′ : List ℕ) : Type 0 where
+  pub end : r .end ≡ endOf f
+  pub looks : r .looks ≡ itemLooks it
   pub placed : (t : ℕ) (ps : List Place) → f ≡ filled t ps → (n : ℕ) → n < length tracks′
       → getD tracks′ n 0 ≡ trackOf ps n
   pub left : (ls : List ℕ) → f ≡ stuck ls → take (length ls) left′ ≡ ls

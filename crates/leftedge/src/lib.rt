@@ -9,6 +9,7 @@ use grid::Column;
 use grid::NET_SLOTS;
 use grid::Net;
 use grid::Track;
+pub use nets::count_looks;
 pub use nets::fill_tracks;
 
 // What the caller's table has of one net. A straight net's column stands twice, and its track is 0: it has none.
@@ -27,9 +28,11 @@ pub enum Outcome {
     Stuck(u32),
 }
 
-// A fill: how it ends, the columns of each net, and the track of each net by its number, 0 where it has none.
+// A fill: how it ends, the columns of each net, the track of each net by its number, 0 where it has none, and how many
+// unplaced nets it looked at, once per track scan.
 pub struct Filled {
     pub outcome: Outcome,
     pub spans: Spans,
     pub tracks: [Track; NET_SLOTS],
+    pub looks: usize,
 }

@@ -1,7 +1,7 @@
 // The fill of items, track by track, over tables by item number: `first` and `last` have the columns of each item, in
 // 16 bits; `nets` has the net that it is a part of; the places of `upper` in which an item stands below are linked by
-// `head` and `next`; and `under` counts the steps below each item that lead to unplaced ones. At worst as many looks as
-// items times tracks.
+// `head` and `next`; and `under` counts the steps below each item that lead to unplaced ones. Each look at an unplaced
+// item is counted.
 ghost use mathlib.Core.Path.{_≡_};
 ghost use Prim.Native.Nat.{_<_};
 ghost use mathlib.Core.List.{List};
@@ -19,6 +19,18 @@ pub enum FillEnd {
     Placed(u32),
     // a track stays empty, and so many items are left
     Stuck(usize),
+}
+
+// A fill of items: how it ends, and how many unplaced items it looked at, once per track scan.
+pub struct ItemsFilled {
+    pub end: FillEnd,
+    pub looks: usize,
+}
+
+// A scan for one track: how many items are left, and how many it looked at.
+struct Scanned {
+    rest: usize,
+    looks: usize,
 }
 
 // The net that item n is a part of; an item past the end of `nets` is a net of its own.
@@ -45,7 +57,7 @@ fn may_follow(first: &[u16], nets: &[u32], n: u32, end: u16, net: u32) -> bool
 }
 
 // One scan of the first `count` items of `left` for track k: those placed get the track, the others move to the front
-// in their order. Answers how many are left.
+// in their order.
 fn scan_track(
     first: &[u16],
     last: &[u16],
@@ -58,20 +70,22 @@ fn scan_track(
     count: usize,
     tracks: &mut [u32],
     k: Track,
-) -> usize
+) -> Scanned
     requires { ⌜ ScanFrom (now first) (now last) (now nets) (now upper) (now head) (now next) (now under) (now left)
         count (now tracks) ⌝ }
     ensures { λ r.
         ⌜ ((it : Items) (ps : List Place)
         → ScanBegins it ps (now (first .entry)) (now (last .entry)) (now (nets .entry)) (now (upper .entry))
         (now (head .entry)) (now (next .entry)) (now (under .entry)) (now (left .entry)) count (now (tracks .entry))
-        → ScanDone it (scan it (k .0) none ps (take count (now (left .entry)))) r (now (under .exit))
+        → ScanDone it (take count (now (left .entry)))
+        (scan it (k .0) none ps (take count (now (left .entry)))) r (now (under .exit))
         (now (left .exit)) (now (tracks .exit))) ⌝ }
 {
     // the last column and the net of the item placed before on this track, 0 if there is none
     let mut end: u16 = 0;
     let mut net: u32 = 0;
     let mut rest: usize = 0;
+    let mut looks: usize = 0;
     let mut i: usize = 0;
     while i < count {
         let item = left[i];
@@ -82,12 +96,14 @@ fn scan_track(
             end = last[n];
             net = net_of(nets, item);
             items::lower_above(upper, next, head[n], under);
+            looks += 1;
         } else {
             left[rest] = item;
             rest += 1;
+            looks += 1; // an item that is left was looked at too
         }
     }
-    rest
+    Scanned { rest, looks }
 }
 
 // Fills tracks with the first `count` items of `left`. Where the fill is stuck, the items left stand at the front.
@@ -102,7 +118,7 @@ pub fn fill_items(
     left: &mut [u32],
     count: usize,
     tracks: &mut [u32],
-) -> FillEnd
+) -> ItemsFilled
     requires { ⌜ FillFrom (now first) (now last) (now nets) (now upper) (now head) (now next) (now under) (now left)
         count (now tracks) ⌝ }
     ensures { λ r.
@@ -112,12 +128,16 @@ pub fn fill_items(
         → FillEnds it (fillItems it) r (now (left .exit)) (now (tracks .exit))) ⌝ }
 {
     let mut rest = count;
+    let mut looks: usize = 0;
     let mut done: u32 = 0;
     loop {
         if rest == 0 {
-            break FillEnd::Placed(done);
+            break ItemsFilled {
+                end: FillEnd::Placed(done),
+                looks,
+            };
         }
-        let after = scan_track(
+        let scanned = scan_track(
             first,
             last,
             nets,
@@ -130,10 +150,15 @@ pub fn fill_items(
             tracks,
             Track(done + 1),
         );
-        if after == rest {
-            break FillEnd::Stuck(rest);
+        let looked = looks + scanned.looks;
+        if scanned.rest == rest {
+            break ItemsFilled {
+                end: FillEnd::Stuck(rest),
+                looks: looked,
+            };
         }
-        rest = after;
+        rest = scanned.rest;
+        looks = looked;
         done += 1;
     }
 }

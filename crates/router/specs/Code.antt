@@ -21,8 +21,9 @@ use Rattle.router.specs.Route.{
   recordsAfter,
   boardAfter,
   ringAfter,
+  looksAnswered,
 }
-use Rattle.router.specs.Contract.{RoutePromise, ParkedBare}
+use Rattle.router.specs.Contract.{RoutePromise, ParkedBare, LooksPromise}
 use Rattle.router.specs.Tables.{noRecords}
 
 -- the records answered by value: none under a refusal
@@ -36,10 +37,11 @@ module _ (ch : Channel) (table : List NetRecord) (ring board : List ℕ) where
 
   -- What `route` answers, and what the caller's table and buffers then hold. Rules out: rows answered for, with the
   -- board untouched (boardHeld); a record with first and last exchanged, or a table written under a refusal
-  -- (tableHeld); and with the promises the wrong programs of RoutePromise and ParkedBare.
+  -- (tableHeld); and with the promises the wrong programs of RoutePromise, ParkedBare and LooksPromise.
   pub record RouteDone (r : Routed) (table′ : List NetRecord) (ring′ board′ : List ℕ) : Type 0 where
     pub answer : r .answer ≡ routeAnswer trays ch
     pub counted : r .count ≡ length (recordsUnless (routeRefusal trays ch) (recordsMade ch (fill ch)))
+    pub looks : r .looks ≡ looksAnswered trays ch
     pub tableHeld : table′ ≡ recordsAfter trays ch table
     pub ringHeld : ring′ ≡ ringAfter trays ch ring
     pub boardHeld : board′ ≡ boardAfter trays ch board
@@ -49,6 +51,9 @@ module _ (ch : Channel) (table : List NetRecord) (ring board : List ℕ) where
     -- and Req 04 of 02
     pub parked : recordTray ≤ length table → ringTray ≤ length ring → boardTray ≤ length board → Escapes ch
         → ParkedBare ch (r .answer) (take (r .count) table′) board′
+    -- and Req 07
+    pub looked : recordTray ≤ length table → ringTray ≤ length ring → boardTray ≤ length board → Escapes ch
+        → LooksPromise ch (r .looks)
 
 module _ (ch : Channel) (ring board : List ℕ) where
   abbrev buffers : List Tray
@@ -60,6 +65,7 @@ module _ (ch : Channel) (ring board : List ℕ) where
   pub record RowsDone (r : Routing) (ring′ board′ : List ℕ) : Type 0 where
     pub answer : r .answer ≡ routeAnswer buffers ch
     pub counted : r .count ≡ length (recordsUnless (routeRefusal buffers ch) (recordsMade ch (fill ch)))
+    pub looks : r .looks ≡ looksAnswered buffers ch
     pub table : r .records ≡ recordsAfter buffers ch noRecords
     pub ringHeld : ring′ ≡ ringAfter buffers ch ring
     pub boardHeld : board′ ≡ boardAfter buffers ch board
@@ -69,3 +75,5 @@ module _ (ch : Channel) (ring board : List ℕ) where
     -- and Req 04 of 02
     pub parked : ringTray ≤ length ring → boardTray ≤ length board → Escapes ch
         → ParkedBare ch (r .answer) (take (r .count) (r .records)) board′
+    -- and Req 07
+    pub looked : ringTray ≤ length ring → boardTray ≤ length board → Escapes ch → LooksPromise ch (r .looks)

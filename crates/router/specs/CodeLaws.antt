@@ -20,7 +20,7 @@ use Rattle.channel.specs.Answers.{Escapes, rowsRefusal}
 use Rattle.leftedge.specs.Items.{Place}
 use Rattle.leftedge.specs.Fill.{filled, stuck}
 use Rattle.leftedge.specs.Walk.{ringOf, ringNumbers}
-use Rattle.leftedge.specs.Nets.{netItems, fill, records}
+use Rattle.leftedge.specs.Nets.{netItems, fill, looks, records}
 use Rattle.boardfile.specs.Encode.{encode}
 use Rattle.drawing.specs.Draw.{draw}
 use Rattle.router.specs.declared.Routing.{Routing}
@@ -35,8 +35,11 @@ use Rattle.router.specs.Route.{
   boardAfter,
   ringAfter,
   filledUnder7,
+  looksUnless,
+  looksAnswered,
 }
 use Rattle.router.specs.ContractLaws.{only-tangled, stuck-answer, filled-answer, stuck-ring, filled-board}
+use Rattle.router.specs.ContractLaws.{looks-begun}
 use Rattle.router.specs.Tables.{noRecords, Listed}
 use Rattle.router.specs.Code.{recordsUnless}
 
@@ -68,6 +71,7 @@ pub record HeldBy (trays : List Tray) (ch : Channel) (ring board : List ℕ) (r 
     (ring′ board′ : List ℕ) : Type 0 where
   pub answer : r .answer ≡ routeAnswer trays ch
   pub counted : r .count ≡ length (recordsUnless (routeRefusal trays ch) (recordsMade ch (fill ch)))
+  pub looks : r .looks ≡ looksAnswered trays ch
   pub table : r .records ≡ recordsAfter trays ch noRecords
   pub ringHeld : ring′ ≡ ringAfter trays ch ring
   pub boardHeld : board′ ≡ boardAfter trays ch board
@@ -75,21 +79,25 @@ pub record HeldBy (trays : List Tray) (ch : Channel) (ring board : List ℕ) (r 
 abbrev pub Held : Channel → List ℕ → List ℕ → Routing → List ℕ → List ℕ → Type 0
 Held ch ring board = HeldBy (routeTrays (length ring) (length board)) ch ring board
 
--- a refusal is answered, and a table of nobody's
-pub record RefusedWith (q : Refusal) (r : Routing) : Type 0 where
+-- a refusal is answered after so many looks, and a table of nobody's
+pub record RefusedWith (q : Refusal) (looked : ℕ) (r : Routing) : Type 0 where
   pub answer : r .answer ≡ route.Refused q
   pub counted : r .count ≡ 0
+  pub looks : r .looks ≡ looked
   pub table : r .records ≡ noRecords
 
 -- a refusal other than 7: nothing is written, no record is answered
 pub refused-held : (trays : List Tray) (ch : Channel) (ring board : List ℕ) {r : Routing} {q : Refusal}
-    → routeRefusal trays ch ≡ some q → (numberOf q ≡ 7 → ⊥) → RefusedWith q r → HeldBy trays ch ring board r ring board
-unfolding routeAnswer answered recordsUnless recordsAfter ringAfter filledUnder7 boardAfter filledUnless
+    → routeRefusal trays ch ≡ some q → (numberOf q ≡ 7 → ⊥) → RefusedWith q 0 r
+    → HeldBy trays ch ring board r ring board
+unfolding routeAnswer answered recordsUnless recordsAfter ringAfter filledUnder7 boardAfter filledUnless looksAnswered
+    looksUnless
 refused-held trays ch ring board {r} {q} e other a =
     let not7 = fails→false (eqb (numberOf q) 7) (λ t. other (eqb→eq (numberOf q) 7 t)) in
     record {
       answer = a .answer ∙ sym (rw (e, answered));
       counted = a .counted ∙ sym (rw (e, recordsUnless));
+      looks = a .looks ∙ sym (rw (e, looksUnless, not7));
       table = a .table ∙ sym (rw (e, filledUnless));
       ringHeld = sym (rw (e, filledUnder7, not7));
       boardHeld = sym (rw (e, filledUnless));
@@ -129,13 +137,14 @@ module _ (ch : Channel) (ring board : List ℕ) where
 
       -- stuck: the ring alone is written
       pub stuck-held : {r : Routing} (left : List ℕ) {ring′ : List ℕ} → fill ch ≡ stuck left
-          → RefusedWith (refusal.Tangled (length (ringOf (netItems ch) left))) r
+          → RefusedWith (refusal.Tangled (length (ringOf (netItems ch) left))) (looks ch) r
           → ring′ ≡ overlay (ringNumbers (ringOf (netItems ch) left)) ring → Held ch ring board r ring′ board
       unfolding recordsUnless recordsAfter boardAfter filledUnless tangled
       stuck-held left e a h =
           record {
             answer = a .answer ∙ sym (stuck-answer trays ch fits esc left e);
             counted = a .counted ∙ sym (rw (only, e, tangled, recordsUnless));
+            looks = a .looks ∙ sym (looks-begun trays ch fits esc);
             table = a .table ∙ sym (rw (only, e, tangled, filledUnless));
             ringHeld = h ∙ sym (stuck-ring trays ch fits esc left ring e);
             boardHeld = sym (rw (only, e, tangled, filledUnless));
@@ -144,12 +153,14 @@ module _ (ch : Channel) (ring board : List ℕ) where
       -- filled: the board is written, and the records are answered
       pub filled-held : {r : Routing} (t : ℕ) (ps : List Place) {board′ : List ℕ} → fill ch ≡ filled t ps
           → r .answer ≡ route.Routed t (length (draw ch t ps .pieces)) → Listed (records ch ps) (r .records) (r .count)
-          → board′ ≡ overlay (encode (width ch) (draw ch t ps)) board → Held ch ring board r ring board′
+          → r .looks ≡ looks ch → board′ ≡ overlay (encode (width ch) (draw ch t ps)) board
+          → Held ch ring board r ring board′
       unfolding recordsUnless recordsAfter ringAfter filledUnder7 filledUnless tangled recordsMade
-      filled-held t ps e a l h =
+      filled-held t ps e a l seen h =
           record {
             answer = a ∙ sym (filled-answer trays ch fits esc t ps e);
             counted = l .counted ∙ sym (rw (only, e, tangled, recordsUnless, recordsMade));
+            looks = seen ∙ sym (looks-begun trays ch fits esc);
             table = l .laid ∙ sym (rw (only, e, tangled, filledUnless, recordsMade));
             ringHeld = sym (rw (only, e, tangled, filledUnder7));
             boardHeld = h ∙ sym (filled-board trays ch fits esc t ps board e);

@@ -1,4 +1,5 @@
--- What the router promises of what the caller then holds: the equations of Route, demand 3 whole, and Req 04 of 02.
+-- What the router promises of what the caller then holds: the equations of Route, demand 3 whole, and Reqs 04 and 07
+-- of 02.
 use Prim.Native.Nat.{ℕ, _+_, _*_, _≤_}
 use mathlib.Core.Path.{_≡_}
 use mathlib.Core.List.{List}
@@ -6,12 +7,13 @@ use mathlib.Core.Logic.{_↔_}
 use mathlib.Core.Option.{none}
 use lib.ListN.{length, take}
 use Rattle.refusal.specs.declared.Refusal.the-variants as refusal
-use Rattle.channel.specs.Channel.{Channel, width, withoutParked, nets}
+use Rattle.channel.specs.Channel.{Channel, width, withoutParked, nets, spanning}
 use Rattle.channel.specs.Density.{density}
 use Rattle.channel.specs.Constraints.{chain, Step, Ring, Tangled, Unconstrained}
 use Rattle.wiring.specs.Layouts.{Good, OneTrunkEach}
 use Rattle.leftedge.specs.Walk.{ringNumbers}
-use Rattle.leftedge.specs.Nets.{fill}
+use Rattle.leftedge.specs.Looks.{ceiling}
+use Rattle.leftedge.specs.Nets.{fill, looks}
 use Rattle.boardfile.specs.Open.{openRefusal, fileWidth, fileTracks, fileCount, fileLayout}
 use Rattle.leftedge.specs.declared.NetRecord.{NetRecord}
 use Rattle.channel.specs.Parked.{ParkedBeside}
@@ -70,3 +72,11 @@ pub record ParkedBare (ch : Channel) (r : RouteAnswer) (made : List NetRecord) (
   pub tangled-exactly : (routeTold r .number ≡ 7) ↔ Tangled (withoutParked ch)
   -- "Where the owner's promise looks for a column with pins of two different nets, parked pins are not counted"
   pub fewest : ParkedBeside ch → (t n : ℕ) → r ≡ Routed t n → (t ≡ density ch) × Fewest ch t
+
+-- Req 07 of 02, of the number of looks that the caller is answered, with a board or under 7. Rules out: the last scan
+-- not counted where it stays empty; a net counted only where it is placed; looks of a tangled channel answered as 0.
+pub record LooksPromise (ch : Channel) (looked : ℕ) : Type 0 where
+  -- "That number equals the sum over scans of the nets unplaced when the scan began."
+  pub sum : looked ≡ looks ch
+  -- "For n nets with spans it is at most n times (n + 1), halved."
+  pub at-most : looked ≤ ceiling (length (spanning ch))

@@ -1,5 +1,5 @@
 -- The equations of Route give the promises: the chain of refusals is silent up to 7 for a channel that escapes, and
--- then they are demand 3 and Req 04 of 02.
+-- then they are demand 3 and Reqs 04 and 07 of 02.
 use Prim.Native.Nat.{ℕ, _+_, _*_}
 use native.Mathlib.Omega.{arith}
 use mathlib.Core.Path.{_≡_, sym, _∙_, ap, subst, subst⁻¹}
@@ -25,7 +25,8 @@ use Rattle.leftedge.specs.declared.NetRecord.{NetRecord}
 use Rattle.leftedge.specs.Fill.{Filling, filled, stuck}
 use Rattle.leftedge.specs.FillEnds.{filled-or-stuck}
 use Rattle.leftedge.specs.Walk.{ringOf, ringNumbers}
-use Rattle.leftedge.specs.Nets.{netItems, fill}
+use Rattle.leftedge.specs.Nets.{netItems, fill, looks}
+use Rattle.leftedge.specs.NetFill.{looks≤ceiling}
 use Rattle.leftedge.specs.RingLists.{length-numbers}
 use Rattle.boardfile.specs.Encode.{encode}
 use Rattle.boardfile.specs.Open.{fileLayout}
@@ -38,8 +39,8 @@ use Rattle.router.specs.declared.RouteAnswer.{RouteAnswer}
 use Rattle.router.specs.declared.RouteAnswer.the-variants as route
 use Rattle.router.specs.Route.{ringShown, tangled, layoutDrawn, recordsMade, routeRefusal, routeAnswer}
 use Rattle.router.specs.Route.{boardAfter}
-use Rattle.router.specs.Route.{filledUnder7, ringAfter, routeTold}
-use Rattle.router.specs.Contract.{ShowsRing, HoldsLayout, RoutePromise, ParkedBare}
+use Rattle.router.specs.Route.{filledUnder7, ringAfter, looksUnless, looksAnswered, routeTold}
+use Rattle.router.specs.Contract.{ShowsRing, HoldsLayout, RoutePromise, ParkedBare, LooksPromise}
 use Rattle.router.specs.Code.{recordsUnless}
 
 module _ (trays : List Tray) (ch : Channel) (room : shortTray trays ≡ none) (esc : Escapes ch) where
@@ -70,6 +71,16 @@ module _ (trays : List Tray) (ch : Channel) (room : shortTray trays ≡ none) (e
       → boardAfter trays ch board ≡ overlay (encode (width ch) (draw ch t ps)) board
   unfolding boardAfter filledUnless tangled layoutDrawn
   filled-board t ps board e = rw (only-tangled, e, tangled, filledUnless, layoutDrawn)
+
+  -- the fill is begun, so its looks are answered, however it ends
+  pub looks-begun : looksAnswered trays ch ≡ looks ch
+  unfolding looksAnswered looksUnless tangled
+  looks-begun =
+      ⊎-elim (λ f. rw (only-tangled, f .2, tangled, looksUnless)) (λ r. rw (only-tangled, r .1, tangled, looksUnless))
+      (filled-or-stuck (fill ch))
+
+  pub route-looks : {looked : ℕ} → looked ≡ looksAnswered trays ch → LooksPromise ch looked
+  route-looks e = let sum = e ∙ looks-begun in record { sum = sum; at-most = rw sum (looks≤ceiling ch esc) }
 
   promise : RouterPromise ch
   promise = demand3 ch esc

@@ -34,9 +34,10 @@ use Rattle.router.specs.Route.{
   recordsAfter,
   boardAfter,
   ringAfter,
+  looksAnswered,
 }
-use Rattle.router.specs.Contract.{RoutePromise, ParkedBare}
-use Rattle.router.specs.ContractLaws.{route-promise, route-parked}
+use Rattle.router.specs.Contract.{RoutePromise, ParkedBare, LooksPromise}
+use Rattle.router.specs.ContractLaws.{route-promise, route-parked, route-looks}
 use Rattle.router.specs.Tables.{nobody, noRecords}
 use Rattle.router.specs.Code.{recordsUnless, RouteDone, RowsDone}
 use Rattle.router.specs.CodeLaws.{HeldBy, Held, room}
@@ -89,6 +90,10 @@ module _ (ch : Channel) (table : ℕ) (ring board : List ℕ) (h : recordTray �
       ≡ length (recordsUnless (routeRefusal shorter ch) (recordsMade ch (fill ch)))
   same-count = rw same
 
+  pub same-looks : looksAnswered chain ch ≡ looksAnswered shorter ch
+  unfolding looksAnswered
+  same-looks = rw same
+
   pub same-table : recordsAfter chain ch noRecords ≡ recordsAfter shorter ch noRecords
   unfolding recordsAfter
   same-table = rw same
@@ -99,6 +104,7 @@ module _ (ch : Channel) (table : ℕ) (ring board : List ℕ) (h : recordTray �
       record {
         answer = e .answer ∙ sym same-answer;
         counted = e .counted ∙ sym same-count;
+        looks = e .looks ∙ sym same-looks;
         table = e .table ∙ sym same-table;
         ringHeld = e .ringHeld ∙ sym same-ring;
         boardHeld = e .boardHeld ∙ sym same-board;
@@ -174,18 +180,21 @@ route-front d = front _ _ _ (d .tableHeld) (d .counted)
 pub lent-done : {ch : Channel} {table table′ : List NetRecord} {ring board ring′ board′ : List ℕ}
     {r : Routing} {q : Routed}
     → HeldBy (routeTraysWithRecords (length table) (length ring) (length board)) ch ring board r ring′ board′
-    → table′ ≡ overlay (take (r .count) (r .records)) table → (q .answer ≡ r .answer) × (q .count ≡ r .count)
+    → table′ ≡ overlay (take (r .count) (r .records)) table
+    → (q .answer ≡ r .answer) × (q .count ≡ r .count) × (q .looks ≡ r .looks)
     → RouteDone ch table ring board q table′ ring′ board′
 unfolding recordsAfter
 lent-done {ch} {table} {table′} {ring} {board} {ring′} {board′} {r} {q} e t a =
     record {
       answer = a .0 ∙ e .answer;
       counted = a .1 ∙ e .counted;
+      looks = a .2 ∙ e .looks;
       tableHeld = t ∙ rw (front _ _ _ (e .table) (e .counted)) (stored _ _ table);
       ringHeld = e .ringHeld;
       boardHeld = e .boardHeld;
       promise = promise;
       parked = parked;
+      looked = looked;
     }
   where
     trays : List Tray
@@ -200,6 +209,13 @@ lent-done {ch} {table} {table′} {ring} {board} {ring′} {board′} {r} {q} e 
         (a .1 ∙ e .counted) in
         rw (a .0, e .answer, e .boardHeld) (route-parked trays ch fits esc made board)
 
+    looked : recordTray ≤ length table → ringTray ≤ length ring → boardTray ≤ length board → Escapes ch
+        → LooksPromise ch (q .looks)
+    looked ht hr hb esc =
+        let same = same-trays ch (length table) (length ring) (length board) ht in
+        let fits = same ∙ room (length ring) (length board) hr hb in
+        route-looks trays ch fits esc (a .2 ∙ e .looks)
+
     promise : recordTray ≤ length table → ringTray ≤ length ring → boardTray ≤ length board → Escapes ch
         → RoutePromise ch (q .answer) ring′ board′
     promise ht hr hb esc =
@@ -211,17 +227,20 @@ lent-done {ch} {table} {table′} {ring} {board} {ring′} {board′} {r} {q} e 
 pub rows-done : {ch : Channel} {table table′ : List NetRecord} {ring board ring′ board′ : List ℕ}
     {q : Routed} {r : Routing}
     → table ≡ noRecords → RouteDone ch table ring board q table′ ring′ board′
-    → (r .answer ≡ q .answer) × (r .records ≡ table′) × (r .count ≡ q .count) → RowsDone ch ring board r ring′ board′
+    → (r .answer ≡ q .answer) × (r .records ≡ table′) × (r .count ≡ q .count) × (r .looks ≡ q .looks)
+    → RowsDone ch ring board r ring′ board′
 unfolding noRecords
 rows-done {ch} {table} {table′} {ring} {board} {ring′} {board′} {q} {r} blank given a =
     record {
       answer = a .0 ∙ (d .answer ∙ same-answer ch size ring board fits);
       counted = a .2 ∙ (d .counted ∙ same-count ch size ring board fits);
+      looks = a .3 ∙ (d .looks ∙ same-looks ch size ring board fits);
       table = a .1 ∙ (d .tableHeld ∙ same-table ch size ring board fits);
       ringHeld = d .ringHeld ∙ same-ring ch size ring board fits;
       boardHeld = d .boardHeld ∙ same-board ch size ring board fits;
       promise = λ hr hb esc. rw (a .0) (d .promise fits hr hb esc);
       parked = λ hr hb esc. rw (a .0, a .1, a .2) (d .parked fits hr hb esc);
+      looked = λ hr hb esc. rw (a .3) (d .looked fits hr hb esc);
     }
   where
     d : RouteDone ch noRecords ring board q table′ ring′ board′

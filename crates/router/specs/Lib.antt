@@ -8,4 +8,6 @@ pub mod TableLaws
 pub mod Outcomes
 pub mod LentLaws
 pub mod ToldLaws
+pub mod Progress
+pub mod ProgressLaws
 pub mod ColumnLaws

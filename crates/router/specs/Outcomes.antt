@@ -24,7 +24,7 @@ use Rattle.leftedge.specs.declared.NetRecord.{NetRecord}
 use Rattle.leftedge.specs.Items.{Place, trackOf}
 use Rattle.leftedge.specs.Fill.{Filling, filled, stuck}
 use Rattle.leftedge.specs.Walk.{ringOf}
-use Rattle.leftedge.specs.Nets.{netItems, fill}
+use Rattle.leftedge.specs.Nets.{netItems, fill, looks}
 use Rattle.leftedge.specs.NetLaws.{spanning→order}
 use Rattle.leftedge.specs.NetFill.{nets-filled}
 use Rattle.leftedge.specs.Code.{outcomeOf, ringHeld, tracksBy, FillDone}
@@ -85,7 +85,8 @@ module _ (ch : Channel) (esc : Escapes ch) where
 module _ (ch : Channel) (ring board : List ℕ) (hr : ringTray ≤ length ring) (hb : boardTray ≤ length board)
     {r : Routing} where
   -- the rows are refused
-  pub rows-held : {q : Refusal} → rowsAnswer ch ≡ checking.Refused q → RefusedWith q r → Held ch ring board r ring board
+  pub rows-held : {q : Refusal} → rowsAnswer ch ≡ checking.Refused q → RefusedWith q 0 r
+      → Held ch ring board r ring board
   unfolding rowsAnswer
   rows-held {q} e a =
       let said = refused→some (rowsRefusal ch) q e in
@@ -95,7 +96,7 @@ module _ (ch : Channel) (ring board : List ℕ) (hr : ringTray ≤ length ring) 
 
   module _ (esc : Escapes ch) {ring′ : List ℕ} {f : Filled} (done : FillDone ch ring f ring′) where
     -- the fill is stuck, and the ring is answered
-    pub tangled-held : {pairs : ℕ} → f .outcome ≡ Stuck pairs → RefusedWith (refusal.Tangled pairs) r
+    pub tangled-held : {pairs : ℕ} → f .outcome ≡ Stuck pairs → RefusedWith (refusal.Tangled pairs) (f .looks) r
         → Held ch ring board r ring′ board
     unfolding outcomeOf ringHeld
     tangled-held {pairs} e a = go (fill ch) refl
@@ -108,14 +109,17 @@ module _ (ch : Channel) (ring board : List ℕ) (hr : ringTray ≤ length ring) 
         go (stuck left) h =
             let told = sym (done .outcome ∙ ap (outcomeOf ch) h) ∙ e in
             let count : pairs ≡ length (ringOf (netItems ch) left) = cc in
-            stuck-held ch ring board hr hb esc left h (subst (λ (k : ℕ). RefusedWith (refusal.Tangled k) r) count a)
+            stuck-held ch ring board hr hb esc left h
+            (subst (λ (k : ℕ). RefusedWith (refusal.Tangled k) (looks ch) r) count
+            (subst (λ (j : ℕ). RefusedWith (refusal.Tangled pairs) j r) (done .looks) a))
             (done .held ∙ ap (λ (g : Filling). ringHeld ch g ring) h)
 
     -- the fill is done, and the board and the records are answered
     pub routed-held : {t pieces : ℕ} {s : Spans} {board′ : List ℕ} → f .outcome ≡ Placed t → SpansFound ch s
         → r .answer ≡ route.Routed t pieces → BoardDrawn ch (drawnBy ch (f .tracks) t) board pieces board′
-        → Listed (recordsBy s (f .tracks)) (r .records) (r .count) → Held ch ring board r ring′ board′
-    routed-held {t} {s = s} e found a d listed =
+        → Listed (recordsBy s (f .tracks)) (r .records) (r .count) → r .looks ≡ f .looks
+        → Held ch ring board r ring′ board′
+    routed-held {t} {s = s} e found a d listed seen =
         let p = placed→ done e in
         let ps = p .0 .places in
         let drawn = drawn-by ch t ps (f .tracks) (p .0 .array) in
@@ -123,4 +127,5 @@ module _ (ch : Channel) (ring board : List ℕ) (hr : ringTray ≤ length ring) 
         let count = d .counted ∙ ap (λ (l : Layout). length (l .pieces)) drawn in
         rw (p .1)
         (filled-held ch ring board hr hb esc t ps (p .0 .ended) (a ∙ ap (route.Routed t) count)
-        (subst (λ (l : List NetRecord). Listed l (r .records) (r .count)) made listed) (d .written ∙ rw drawn))
+        (subst (λ (l : List NetRecord). Listed l (r .records) (r .count)) made listed) (seen ∙ done .looks)
+        (d .written ∙ rw drawn))

@@ -1,4 +1,5 @@
--- 01, refusals 1, 3 to 5 and 7 of the router: its answer, and what each lent buffer then holds.
+-- 01, refusals 1, 3 to 5 and 7 of the router, and 02, Req 07: its answer, the looks of its fill, and what each lent
+-- buffer then holds.
 use Prim.Native.Nat.{ℕ}
 use mathlib.Core.List.{List, [], _∷_}
 use mathlib.Core.Bool.{cond}
@@ -17,7 +18,7 @@ use Rattle.channel.specs.Answers.{rowsRefusal}
 use Rattle.leftedge.specs.declared.NetRecord.{NetRecord}
 use Rattle.leftedge.specs.Fill.{Filling, filled, stuck}
 use Rattle.leftedge.specs.Walk.{ringOf, ringNumbers}
-use Rattle.leftedge.specs.Nets.{netItems, fill, records}
+use Rattle.leftedge.specs.Nets.{netItems, fill, looks, records}
 use Rattle.boardfile.specs.Encode.{encode}
 use Rattle.drawing.specs.Draw.{draw}
 use Rattle.router.specs.declared.RouteAnswer.{RouteAnswer}
@@ -72,6 +73,14 @@ filledUnder7 (some r) pairs ring = cond (eqb (numberOf r) 7) (overlay pairs ring
 
 unfoldable pub ringAfter : List Tray → Channel → List ℕ → List ℕ
 ringAfter trays ch ring = filledUnder7 (routeRefusal trays ch) (ringNumbers (ringShown ch (fill ch))) ring
+
+-- 02, Req 07: the fill "returns the count with either outcome", a board or 7; under another refusal it is not begun
+unfoldable pub looksUnless : Option Refusal → ℕ → ℕ
+looksUnless none n = n
+looksUnless (some r) n = cond (eqb (numberOf r) 7) n 0
+
+unfoldable pub looksAnswered : List Tray → Channel → ℕ
+looksAnswered trays ch = looksUnless (routeRefusal trays ch) (looks ch)
 
 -- the pieces, then the tracks
 unfoldable pub routeTold : RouteAnswer → Told

@@ -1,4 +1,6 @@
 // The router of a channel handed over as rows.
+mod progress;
+
 ghost use mathlib.Core.Path.{_≡_};
 ghost use Prim.Native.Nat.{_≤_, _<_};
 ghost use lib.ListN.{length, take};
@@ -22,6 +24,9 @@ use grid::WIDEST;
 use leftedge::Filled;
 use leftedge::NetRecord;
 use leftedge::Outcome;
+pub use progress::LooksAnswer;
+pub use progress::ceiling;
+pub use progress::looks;
 use refusal::BOARD_TRAY;
 use refusal::RECORD_TRAY;
 use refusal::RING_TRAY;
@@ -35,11 +40,13 @@ pub enum RouteAnswer {
 }
 
 // The router's answer, with the net records at the front of a table: as many as `count` says, none under a refusal; the
-// remainder is nobody's.
+// remainder is nobody's. `looks` is how many unplaced nets the fill looked at, filled or tangled, once per track scan;
+// 0 where the fill was not begun.
 pub struct Routing {
     pub answer: RouteAnswer,
     pub records: [NetRecord; RECORD_TRAY],
     pub count: usize,
+    pub looks: usize,
 }
 
 // A table of net records, as many as `count` says.
@@ -90,15 +97,16 @@ fn make_records(spans: Spans, tracks: [Track; NET_SLOTS]) -> Table
     Table { records, count }
 }
 
-// The answer of a refusal.
-fn refused(refusal: Refusal) -> Routing
-    ensures { λ r. ⌜ RefusedWith refusal r ⌝ }
+// The answer of a refusal after so many looks.
+fn refused(refusal: Refusal, looks: usize) -> Routing
+    ensures { λ r. ⌜ RefusedWith refusal looks r ⌝ }
 {
     let records = blank_records();
     Routing {
         answer: RouteAnswer::Refused(refusal),
         records,
         count: 0,
+        looks,
     }
 }
 
@@ -130,7 +138,7 @@ fn route_checked(top: &[u32], bot: &[u32], ring: &mut [u32], board: &mut [u8]) -
     let outcome = filled.outcome;
     let tracks = filled.tracks;
     match outcome {
-        Outcome::Stuck(pairs) => refused(Refusal::Tangled(pairs as usize)),
+        Outcome::Stuck(pairs) => refused(Refusal::Tangled(pairs as usize), filled.looks),
         Outcome::Placed(t) => {
             let pieces = drawing::draw_board(top, bot, spans, tracks, t, board);
             let table = make_records(spans, tracks);
@@ -139,6 +147,7 @@ fn route_checked(top: &[u32], bot: &[u32], ring: &mut [u32], board: &mut [u8]) -
                 answer: RouteAnswer::Routed { tracks: t, pieces },
                 records,
                 count: table.count,
+                looks: filled.looks,
             }
         }
     }
@@ -151,13 +160,13 @@ fn route_by_value(top: &[u32], bot: &[u32], ring: &mut [u32], board: &mut [u8]) 
         (now (ring .exit)) (now (board .exit)) ⌝ }
 {
     if ring.len() < RING_TRAY {
-        return refused(Refusal::ShortTray(RING_TRAY));
+        return refused(Refusal::ShortTray(RING_TRAY), 0);
     }
     if board.len() < BOARD_TRAY {
-        return refused(Refusal::ShortTray(BOARD_TRAY));
+        return refused(Refusal::ShortTray(BOARD_TRAY), 0);
     }
     match channel::check(top, bot) {
-        RowsAnswer::Refused(refusal) => refused(refusal),
+        RowsAnswer::Refused(refusal) => refused(refusal, 0),
         RowsAnswer::Accepted => route_checked(top, bot, ring, board),
     }
 }
@@ -176,7 +185,7 @@ fn route_with_room(
         (now (ring .exit)) (now (board .exit)) ⌝ }
 {
     if room < RECORD_TRAY {
-        return refused(Refusal::ShortTray(RECORD_TRAY));
+        return refused(Refusal::ShortTray(RECORD_TRAY), 0);
     }
     route_by_value(top, bot, ring, board)
 }
@@ -194,37 +203,50 @@ fn store_records(records: &mut [NetRecord], made: [NetRecord; RECORD_TRAY], coun
     }
 }
 
-// What the router answers beside what it stores: the count is that of the records at the front of the caller's table.
+// What the router answers beside what it stores: the count is that of the records at the front of the caller's table;
+// `looks` as in `Routing`.
 pub struct Routed {
     pub answer: RouteAnswer,
     pub count: usize,
+    pub looks: usize,
 }
 
 // The answer of a routing, without its table.
 fn routed_of(routing: Routing) -> Routed
-    ensures { λ r. ⌜ (r .answer ≡ routing .answer) × (r .count ≡ routing .count) ⌝ }
+    ensures { λ r.
+        ⌜ (r .answer ≡ routing .answer) × (r .count ≡ routing .count) × (r .looks ≡ routing .looks) ⌝ }
 {
     let answer = routing.answer;
     let count = routing.count;
-    Routed { answer, count }
+    let looks = routing.looks;
+    Routed {
+        answer,
+        count,
+        looks,
+    }
 }
 
 // An answer and the table that it speaks of.
 fn routing_of(routed: Routed, records: [NetRecord; RECORD_TRAY]) -> Routing
-    ensures { λ r. ⌜ (r .answer ≡ routed .answer) × (r .records ≡ records) × (r .count ≡ routed .count) ⌝ }
+    ensures { λ r.
+        ⌜ (r .answer ≡ routed .answer) × (r .records ≡ records) × (r .count ≡ routed .count)
+        × (r .looks ≡ routed .looks) ⌝ }
 {
     let answer = routed.answer;
     let count = routed.count;
+    let looks = routed.looks;
     Routing {
         answer,
         records,
         count,
+        looks,
     }
 }
 
 // Routes rows of any lengths and numbers: refusals 1, 3 to 5 and 7, in rising number. On success the front of
 // `records` is the net records, as many as the answer counts, and the front of `board` the board file; under 7 the
-// front of `ring` is the ring's pairs; everything else that is lent stays as it was.
+// front of `ring` is the ring's pairs; everything else that is lent stays as it was. How many looks the fill took is
+// answered with a board and under 7.
 pub fn route(
     top: &[u32],
     bot: &[u32],

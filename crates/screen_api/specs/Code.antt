@@ -9,10 +9,11 @@ use lib.ListN.{length, take}
 use Rattle.lists.specs.Lists.{Lowest}
 use Rattle.refusal.specs.Trays.{Tray, ringTray, boardTray}
 use Rattle.grid.specs.Pieces.{Layout}
-use Rattle.channel.specs.Channel.{Channel, withoutParked, nets}
+use Rattle.channel.specs.Channel.{Channel, withoutParked, nets, spanning}
 use Rattle.channel.specs.Density.{density}
 use Rattle.channel.specs.Constraints.{chain, Tangled, Unconstrained}
 use Rattle.channel.specs.Answers.{Escapes, boundsAnswer, boundsTold}
+use Rattle.leftedge.specs.Looks.{ceiling}
 use Rattle.pinlist.specs.Answers.{readAnswer, readTold, topAfter, botAfter}
 use Rattle.boardfile.specs.Open.{fileLayout}
 use Rattle.judge.specs.Answers.{judgeRefusal, judgeAnswer, judgeTold}
@@ -21,7 +22,8 @@ use Rattle.blanks.specs.Stock.{blankAnswer, blankTold}
 use Rattle.channel.specs.Parked.{ParkedBeside}
 use Rattle.promises.specs.Router.{NoLayout, Fewest, Bare}
 use Rattle.router.specs.Route.{routeTrays, routeAnswer, routeTold, boardAfter, ringAfter}
-use Rattle.router.specs.Contract.{ShowsRing, HoldsLayout}
+use Rattle.router.specs.Progress.{looksAnswer, ceilingAnswer, looksTold}
+use Rattle.router.specs.Contract.{ShowsRing, HoldsLayout, LooksPromise}
 use Rattle.screen_api.specs.Numbers.{entryNumber, refusalIn, placeIn, tracksIn, piecesIn, Decoded}
 
 -- Rules out: a width answered for a refusal (answer); rows changed under a refusal (topHeld, botHeld)
@@ -63,6 +65,21 @@ module _ (ch : Channel) (ring board : List ℕ) where
     pub ringHeld : ring′ ≡ ringAfter trays ch ring
     pub boardHeld : board′ ≡ boardAfter trays ch board
     pub promise : ringTray ≤ length ring → boardTray ≤ length board → Escapes ch → RouteNumberPromise ch r ring′ board′
+
+-- Req 07 of 02, of the number r. Rules out: a tangled channel refused (accepted); its last, empty scan not counted
+-- (promise)
+pub record LooksEntry (ch : Channel) (r : ℕ) : Type 0 where
+  pub answer : r ≡ entryNumber (looksTold (looksAnswer ch))
+  pub decoded : Decoded (looksTold (looksAnswer ch)) r
+  pub accepted : (refusalIn r ≡ 0) ↔ Escapes ch
+  pub promise : refusalIn r ≡ 0 → LooksPromise ch (placeIn r)
+
+-- Rules out: straight nets or parked pins counted among the n (ceilingRead); a ceiling of n times n (ceilingRead)
+pub record CeilingEntry (ch : Channel) (r : ℕ) : Type 0 where
+  pub answer : r ≡ entryNumber (looksTold (ceilingAnswer ch))
+  pub decoded : Decoded (looksTold (ceilingAnswer ch)) r
+  pub accepted : (refusalIn r ≡ 0) ↔ Escapes ch
+  pub ceilingRead : refusalIn r ≡ 0 → placeIn r ≡ ceiling (length (spanning ch))
 
 -- Demand 2, of the number r answered for a board that is not refused: 11 before 12 before 13, each at its lowest place
 pub record FaultNumbers (ch : Channel) (l : Layout) (r : ℕ) : Type 0 where

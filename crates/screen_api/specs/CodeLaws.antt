@@ -1,6 +1,6 @@
 -- An entry keeps its function's contract where the number that it answers is that of the function's answer; and what
 -- the function promises of its answer, the entry promises of the number.
-use Prim.Native.Nat.{ℕ, _+_, _*_, _≤_}
+use Prim.Native.Nat.{ℕ, _+_, _*_, _≤_, _<_}
 use native.Mathlib.Omega.{arith}
 use mathlib.Core.Path.{_≡_, refl, sym, _∙_, ap, ap₂, subst}
 use mathlib.Core.List.{List, [], _∷_}
@@ -9,11 +9,12 @@ use mathlib.Core.Bool.{cond}
 use mathlib.Core.Option.{Option, none, some}
 use lib.ListN.{length, take}
 use lib.Dec.{eqb}
+use Rattle.refusal.specs.Refusals.{toldValues}
 use Rattle.refusal.specs.TrayLaws.{refusal-numbered}
 use Rattle.refusal.specs.ToldLaws.{told-success}
 use Rattle.refusal.specs.Trays.{ringTray, boardTray}
 use Rattle.channel.specs.declared.BoundsAnswer.the-variants as bounds
-use Rattle.channel.specs.Channel.{Channel}
+use Rattle.channel.specs.Channel.{Channel, spanning}
 use Rattle.channel.specs.Density.{density}
 use Rattle.channel.specs.Constraints.{chain}
 use Rattle.channel.specs.Answers.{Escapes, rowsRefusal, boundsAnswer, boundsTold}
@@ -25,7 +26,9 @@ use Rattle.pinlist.specs.Answers.{readTold}
 use Rattle.pinlist.specs.Code.{ReadDone}
 use Rattle.pinlist.specs.ToldLaws.{width-small}
 use Rattle.leftedge.specs.Walk.{ringOf}
-use Rattle.leftedge.specs.Nets.{netItems}
+use Rattle.leftedge.specs.Looks.{ceiling}
+use Rattle.leftedge.specs.Nets.{netItems, looks}
+use Rattle.leftedge.specs.NetFill.{looks≤ceiling}
 use Rattle.boardfile.specs.Open.{fileTracks, fileLayout}
 use Rattle.judge.specs.declared.Fault.{Fault}
 use Rattle.judge.specs.declared.Fault.the-variants.{Short, Open, Floating}
@@ -44,12 +47,15 @@ use Rattle.promises.specs.Proved.{demand3}
 use Rattle.router.specs.declared.Routing.{Routing}
 use Rattle.router.specs.declared.RouteAnswer.{RouteAnswer}
 use Rattle.router.specs.declared.RouteAnswer.the-variants as routing
+use Rattle.router.specs.declared.progress.LooksAnswer.the-variants as progress
 use Rattle.router.specs.Route.{routeTrays, routeTold}
-use Rattle.router.specs.Contract.{ShowsRing, RoutePromise, ParkedBare}
+use Rattle.router.specs.Contract.{ShowsRing, RoutePromise, ParkedBare, LooksPromise}
 use Rattle.router.specs.ContractLaws.{stuck-answer}
 use Rattle.router.specs.CodeLaws.{room}
 use Rattle.router.specs.Code.{RowsDone}
 use Rattle.router.specs.ToldLaws.{routed-small}
+use Rattle.router.specs.Progress.{looksAnswer, ceilingAnswer, looksTold}
+use Rattle.router.specs.ProgressLaws.{looks-told, ceiling-told, ceiling-small}
 use Rattle.screen_api.specs.Numbers.{entryNumber, refusalIn, placeIn, tracksIn, piecesIn}
 use Rattle.screen_api.specs.NumberLaws.{
   value-number,
@@ -57,6 +63,7 @@ use Rattle.screen_api.specs.NumberLaws.{
   decoded,
   number-exactly,
   place-back,
+  value-back,
   Halves,
   pair-back,
   zero-exactly,
@@ -67,6 +74,8 @@ use Rattle.screen_api.specs.Code.{
   BoundsEntry,
   RouteNumberPromise,
   RouteEntry,
+  LooksEntry,
+  CeilingEntry,
   FaultNumbers,
   JudgeEntry,
   BlankEntry,
@@ -83,7 +92,7 @@ module _ {text top bot top′ bot′ : List ℕ} {a : ReadAnswer} (done : ReadDo
   unfolding readTold
   read-width {w} e =
       let small = width-small text (length top) (length bot) (sym (done .answer) ∙ e) in
-      read-entry (rw e (value-number small))
+      read-entry (rw e (value-number (omega (arith, small))))
 
 -- bounds
 module _ (ch : Channel) where
@@ -194,6 +203,53 @@ module _ {ch : Channel} {ring board ring′ board′ : List ℕ} {a : Routing}
       let small = routed-small (routeTrays (length ring) (length board)) ch (sym (done .answer) ∙ q) in
       route-entry (rw q (pair-number (omega arith) (omega arith)))
 
+-- looks and their ceiling
+module _ (ch : Channel) where
+  -- the ceiling of any channel fits, and no looks pass it
+  ceiling-fits : ceiling (length (spanning ch)) < 4294967296
+  ceiling-fits = omega (arith, ceiling-small ch)
+
+  pub looks-entry : {r : ℕ} → r ≡ entryNumber (looksTold (looksAnswer ch)) → LooksEntry ch r
+  looks-entry {r} e =
+      let by = e ∙ ap entryNumber (looks-told ch) in
+      record {
+        answer = e;
+        decoded = decoded e;
+        accepted = Iff·trans (zero-exactly (rowsRefusal ch) _ by) (accepted-exactly ch);
+        promise = λ h. promise (zero-exactly (rowsRefusal ch) _ by .0 h) (zero→values (rowsRefusal ch) _ by h);
+      }
+    where
+      promise : rowsRefusal ch ≡ none → r ≡ entryNumber (toldValues (looks ch ∷ [])) → LooksPromise ch (placeIn r)
+      promise silent back =
+          let most = looks≤ceiling ch (accepted-exactly ch .0 silent) in
+          let same = value-back back (omega (arith, most, ceiling-fits)) in
+          record { sum = same; at-most = rw same most }
+
+  pub ceiling-entry : {r : ℕ} → r ≡ entryNumber (looksTold (ceilingAnswer ch)) → CeilingEntry ch r
+  ceiling-entry e =
+      let by = e ∙ ap entryNumber (ceiling-told ch) in
+      record {
+        answer = e;
+        decoded = decoded e;
+        accepted = Iff·trans (zero-exactly (rowsRefusal ch) _ by) (accepted-exactly ch);
+        ceilingRead = λ h. value-back (zero→values (rowsRefusal ch) _ by h) ceiling-fits;
+      }
+
+  pub looks-given : {n : ℕ} → looksAnswer ch ≡ progress.Looks n → LooksEntry ch n
+  unfolding looksTold
+  looks-given {n} q =
+      let s = told-success (rowsRefusal ch) _ (n ∷ []) (sym (looks-told ch) ∙ ap looksTold q) in
+      let same : looks ch ≡ n = cc (s .1) in
+      let most = looks≤ceiling ch (accepted-exactly ch .0 (s .0)) in
+      looks-entry (rw q (value-number (omega (arith, same, most, ceiling-fits))))
+
+  pub ceiling-given : {n : ℕ} → ceilingAnswer ch ≡ progress.Looks n → CeilingEntry ch n
+  unfolding looksTold
+  ceiling-given {n} q =
+      let s = told-success (rowsRefusal ch) _ (n ∷ []) (sym (ceiling-told ch) ∙ ap looksTold q) in
+      let same : ceiling (length (spanning ch)) ≡ n = cc (s .1) in
+      ceiling-entry (rw q (value-number (omega (arith, same, ceiling-fits))))
+
 -- judging: a fault is known by its number and place
 faultOf : ℕ → ℕ → Fault
 faultOf n p = cond (eqb n 11) (Short p) (cond (eqb n 12) (Open p) (Floating p))
@@ -266,4 +322,4 @@ module _ (t : ℕ) where
 
   pub blank-held : {b : ℕ} → blankAnswer t ≡ blanks.Blank b → BlankEntry t b
   unfolding blankTold
-  blank-held q = blank-entry (rw q (value-number (blank-small t q)))
+  blank-held q = blank-entry (rw q (value-number (omega (arith, blank-small t q))))

@@ -36,7 +36,7 @@ refusal-small (WrongBoard p) = omega arith
 refusal-small (NoBlank p) = omega arith
 
 -- values that fit
-pub value-number : {v : ℕ} → v ≤ 512 → v ≡ entryNumber (toldValues (v ∷ []))
+pub value-number : {v : ℕ} → v < 4294967296 → v ≡ entryNumber (toldValues (v ∷ []))
 unfolding entryNumber packed
 value-number h = omega arith
 
@@ -57,6 +57,11 @@ number-exactly d exactly = (λ h. exactly .0 (sym (d .number) ∙ h), λ p. d .n
 pub place-back : {r p : ℕ} (n : ℕ) → r ≡ entryNumber (toldAt n p) → p < 65536 → placeIn r ≡ p
 unfolding packed
 place-back n e h = let d = decoded e .place in omega arith
+
+-- and so does a value
+pub value-back : {r v : ℕ} → r ≡ entryNumber (toldValues (v ∷ [])) → v < 4294967296 → placeIn r ≡ v
+unfolding packed
+value-back e h = let d = decoded e .place in omega arith
 
 -- both halves of two values come back
 pub record Halves (v w r : ℕ) : Type 0 where

@@ -7,13 +7,15 @@ ghost use Rattle.refusal.specs.Refusals.{toldAt, toldRefusal};
 ghost use Rattle.channel.specs.Channel.{rows};
 ghost use Rattle.judge.specs.Answers.{faultNumber, faultPlace};
 ghost use Rattle.screen_api.specs.Numbers.{entryNumber};
-ghost use Rattle.screen_api.specs.Code.{ReadEntry, BoundsEntry, RouteEntry, JudgeEntry, BlankEntry};
+ghost use Rattle.screen_api.specs.Code.{ReadEntry, BoundsEntry, RouteEntry, LooksEntry, CeilingEntry};
+ghost use Rattle.screen_api.specs.Code.{JudgeEntry, BlankEntry};
 use blanks::BlankAnswer;
 use channel::BoundsAnswer;
 use judge::Fault;
 use judge::JudgeAnswer;
 use pinlist::ReadAnswer;
 use refusal::Refusal;
+use router::LooksAnswer;
 use router::RouteAnswer;
 
 // A number of the table and its place, in one number.
@@ -71,6 +73,29 @@ pub extern "C" fn cabjirt_route(top: &[u32], bot: &[u32], ring: &mut [u32], boar
     match answer {
         RouteAnswer::Routed { tracks, pieces } => pieces as u64 * 65536 + tracks as u64,
         RouteAnswer::Refused(refusal) => refused(refusal),
+    }
+}
+
+// How many looks the fill of rows takes, tangled or not: each net unplaced as a track's scan begins, the last empty
+// scan included; or refusals 3 to 5.
+#[no_mangle]
+pub extern "C" fn cabjirt_looks(top: &[u32], bot: &[u32]) -> u64
+    ensures { λ r. ⌜ LooksEntry (rows (now (top .entry)) (now (bot .entry))) r ⌝ }
+{
+    match router::looks(top, bot) {
+        LooksAnswer::Looks(n) => n as u64,
+        LooksAnswer::Refused(refusal) => refused(refusal),
+    }
+}
+
+// The most looks that a fill of the nets with spans in rows can take, or refusals 3 to 5.
+#[no_mangle]
+pub extern "C" fn cabjirt_ceiling(top: &[u32], bot: &[u32]) -> u64
+    ensures { λ r. ⌜ CeilingEntry (rows (now (top .entry)) (now (bot .entry))) r ⌝ }
+{
+    match router::ceiling(top, bot) {
+        LooksAnswer::Looks(n) => n as u64,
+        LooksAnswer::Refused(refusal) => refused(refusal),
     }
 }
 

@@ -124,10 +124,10 @@ module _ {M : Type 1} (𝓤 : URA M) (H : Heap 𝓤) (A : Atoms 𝓤) (mem : Mem
   -- of `routed_of`'s `ensured`, the clause alone: it has no last value
   answer-of : (r : Routing) (p : Routed) → ent 𝓤
       (ensured 𝓤 H A answer.ended (answer.clauses 𝓤 H A mem run) tt (r, tt) tt p)
-      (fact 𝓤 ((p .answer ≡ r .answer) × (p .count ≡ r .count)))
+      (fact 𝓤 ((p .answer ≡ r .answer) × (p .count ≡ r .count) × (p .looks ≡ r .looks)))
   answer-of r p =
       exE 𝓤 _ (λ ws. snd∗ 𝓤 (sem 𝓤 H A (lasts answer.ended tt (r, tt) ws))
-      (fact 𝓤 ((p .answer ≡ r .answer) × (p .count ≡ r .count))))
+      (fact 𝓤 ((p .answer ≡ r .answer) × (p .count ≡ r .count) × (p .looks ≡ r .looks))))
 
 module _ {M : Type 1} (𝓤 : URA M) (H : Heap 𝓤) (A : Atoms 𝓤) (W : Given 𝓤 H A) (mem : Memory → SProp 𝓤)
     (run : Routine → Fun 𝓤)
@@ -220,7 +220,7 @@ module _ {M : Type 1} (𝓤 : URA M) (H : Heap 𝓤) (A : Atoms 𝓤) (W : Given
   Own r = R.the-row .own r (mach r ∷ [])
 
   abbrev fields : Routing → Values (R.the-type .parts)
-  fields r = (r .answer, (r .records, (r .count, tt)))
+  fields r = (r .answer, (r .records, (r .count, (r .looks, tt))))
 
   -- the call of `store_records`, with the routing's table and count
   abbrev argss : Routing → Args store.signature (κ₂, tt)
@@ -244,11 +244,16 @@ module _ {M : Type 1} (𝓤 : URA M) (H : Heap 𝓤) (A : Atoms 𝓤) (W : Given
   goes-store : (r : Routing) → (r .count ≤ 511) × (r .count ≤ length (now records))
       → ent 𝓤 (sep 𝓤 (A .lft κ₂ q₂) (sep 𝓤 (sem 𝓤 H A OwnRecords)
       (sem 𝓤 H A (fsep (ownAt (R.the-type .parts) R′.the-laws 1 (r .records))
-      (fsep (ownAt (R.the-type .parts) R′.the-laws 2 (r .count)) ftrue))))) (Store 𝓤 H A mem run .pre (to-store r))
+      (fsep (ownAt (R.the-type .parts) R′.the-laws 2 (r .count))
+      (fsep (ownAt (R.the-type .parts) R′.the-laws 3 (r .looks)) ftrue)))))) (Store 𝓤 H A mem run .pre (to-store r))
   goes-store r fits =
       qed W (‵ (flft κ₂ q₂) ∷ ‵ OwnRecords ∷ ‵ (fsep (ownAt (R.the-type .parts) R′.the-laws 1 (r .records))
-      (fsep (ownAt (R.the-type .parts) R′.the-laws 2 (r .count)) ftrue)) ∷ []) ∵
+      (fsep (ownAt (R.the-type .parts) R′.the-laws 2 (r .count))
+      (fsep (ownAt (R.the-type .parts) R′.the-laws 3 (r .looks)) ftrue))) ∷ []) ∵
       says ! fits $ nothing ! $ move ! (1 ∷ 0 ∷ []) $ join ! $ frame ! $ move ! (1 ∷ []) $ fsplit ! $
+      -- what the looks own is not passed
+      move ! (1 ∷ []) $ fsplit ! $ move ! (1 ∷ []) $ fsplit ! $ drop ! $ move ! (1 ∷ 0 ∷ []) $ fjoin ! $ move !
+      (1 ∷ 0 ∷ []) $
       rewrite ! 0 (λ (P : Fml). ‵ P) (array-recorded N.the-type 511 (r .records)
       (valAt (R.the-type .parts) R′.the-laws 1 (r .records) ∷ [])) refl $ fjoin ! $ move !
       (1 ∷ 0 ∷ []) $ fjoin ! $ done !
@@ -388,9 +393,10 @@ module _ {M : Type 1} (𝓤 : URA M) (H : Heap 𝓤) (A : Atoms 𝓤) (W : Given
         (later (some (λ (p : Routed). (‵ ftrue ⊛ ‵ (Q.the-row .own p (w ∷ []))) ⊛ raw
         (ensured 𝓤 H A answer.ended (answer.clauses 𝓤 H A mem run) tt (r, tt) tt p))))
         (id⊢ 𝓤 _) $ await ! tt $ pick ! (λ p.
-        split ! $ move ! (1 ∷ []) $ use1 W (raw (fact 𝓤 ((p .answer ≡ r .answer) × (p .count ≡ r .count))))
+        split ! $ move ! (1 ∷ []) $ use1 W
+        (raw (fact 𝓤 ((p .answer ≡ r .answer) × (p .count ≡ r .count) × (p .looks ≡ r .looks))))
         (answer-of 𝓤 H A mem run r p) $
-        heard ! ((p .answer ≡ r .answer) × (p .count ≡ r .count)) (λ same. split ! $ drop ! $
+        heard ! ((p .answer ≡ r .answer) × (p .count ≡ r .count) × (p .looks ≡ r .looks)) (λ same. split ! $ drop ! $
         -- [the result; the token of records; records' last list; the tokens; board's last list; ring's last list; _14;
         -- …]
         peeks ! Q.the-row (Is Q.the-row) (shows 𝓤 H A Q.the-row) p (w ∷ []) (λ answer-is.

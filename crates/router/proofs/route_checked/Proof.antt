@@ -39,7 +39,7 @@ returns-2 c =
     let b = begun f in
     let nets = f .fill-nets .ensures in
     routed-held (channel b) _ _ (b .pre .1) (b .pre .2) (b .pre .0) nets (o .outcome2 .given .1)
-    (nets .spans) refl (d .draw-board .ensures) (m .make-records .ensures)
+    (nets .spans) refl (d .draw-board .ensures) (m .make-records .ensures) refl
 
 pub route-checked-spec : {M : Type 1} → statement M
 route-checked-spec =

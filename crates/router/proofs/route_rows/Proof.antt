@@ -257,10 +257,11 @@ module _ {M : Type 1} (𝓤 : URA M) (H : Heap 𝓤) (A : Atoms 𝓤) (W : Given
         (2 ∷ 0 ∷ []) $ fjoin ! $ move ! (1 ∷ 0 ∷ []) $ fjoin ! $ nothing ! $ join ! $ frame ! $ done !
 
     routing-from : (m : Routing) → ent 𝓤 (ensured 𝓤 H A routing-of.ended (routing-of.clauses 𝓤 H A mem run) tt
-        (r, (t, tt)) tt m) (fact 𝓤 ((m .answer ≡ r .answer) × (m .records ≡ t) × (m .count ≡ r .count)))
+        (r, (t, tt)) tt m)
+        (fact 𝓤 ((m .answer ≡ r .answer) × (m .records ≡ t) × (m .count ≡ r .count) × (m .looks ≡ r .looks)))
     routing-from m =
         exE 𝓤 _ (λ ws. snd∗ 𝓤 (sem 𝓤 H A (lasts routing-of.ended tt (r, (t, tt)) ws))
-        (fact 𝓤 ((m .answer ≡ r .answer) × (m .records ≡ t) × (m .count ≡ r .count))))
+        (fact 𝓤 ((m .answer ≡ r .answer) × (m .records ≡ t) × (m .count ≡ r .count) × (m .looks ≡ r .looks))))
 
   exits : (m : Routing) (w : Val) (g h : List ℕ) → RowsDone ch (ring .now) (board .now) m g h
       → length g ≡ length (ring .now) → length h ≡ length (board .now)
@@ -387,8 +388,10 @@ module _ {M : Type 1} (𝓤 : URA M) (H : Heap 𝓤) (A : Atoms 𝓤) (W : Given
         (ensured 𝓤 H A routing-of.ended (routing-of.clauses 𝓤 H A mem run) tt (r, (z .0, tt)) tt m)))) (id⊢ 𝓤 _) $
         await ! tt $ pick ! (λ m.
         split ! $ move ! (1 ∷ []) $ use1 W (raw (fact 𝓤
-        ((m .answer ≡ r .answer) × (m .records ≡ z .0) × (m .count ≡ r .count)))) (routing-from r (z .0) w₁ w₂ m) $
-        heard ! ((m .answer ≡ r .answer) × (m .records ≡ z .0) × (m .count ≡ r .count)) (λ e. split ! $ drop ! $
+        ((m .answer ≡ r .answer) × (m .records ≡ z .0) × (m .count ≡ r .count) × (m .looks ≡ r .looks))))
+        (routing-from r (z .0) w₁ w₂ m) $
+        heard ! ((m .answer ≡ r .answer) × (m .records ≡ z .0) × (m .count ≡ r .count) × (m .looks ≡ r .looks))
+        (λ e. split ! $ drop ! $
         peeks ! R.the-row (Is R.the-row) (shows 𝓤 H A R.the-row) m (w ∷ [])
         (λ is. land ! (from ! (stop !)) (init ! 30 refl (LL.lawful R.the-type R′.the-laws 𝓤 H A W .typed m _ is .0)) $
         -- [the result; _5; the tokens; the last lists of ring and board; what is kept; _13; …; _6; …; the end of _5;

@@ -9,18 +9,18 @@ use borrow.Author.Needs.{needs}
 use Rattle.leftedge.specs.Items.{Items}
 use Rattle.leftedge.specs.Tables.{FillBegins}
 use Rattle.leftedge.specs.FillTurns.{Underway, starts-empty, few, scan-begins, placed-ends, no-more, track-filled}
-use Rattle.leftedge.specs.FillTurns.{stuck-ends}
+use Rattle.leftedge.specs.FillTurns.{few-looks, stuck-ends}
 use Rattle.leftedge.proofs.tracks.fill_items.Statement.{statement}
 use Rattle.leftedge.proofs.tracks.fill_items.Tie as tie
 
 abbrev Inv-loop : tie.InvT-loop
-Inv-loop first last nets upper head next under₀ left₀ count tracks₀ rest₀ done₀ under left tracks rest done =
+Inv-loop first last nets upper head next under₀ left₀ count tracks₀ rest₀ looks₀ done₀ under left tracks rest looks done =
     ((it : Items) → FillBegins it first last nets upper head next under₀ left₀ count tracks₀
-    → Underway it under left tracks rest done) × (length under ≡ length under₀) × (length left ≡ length left₀)
+    → Underway it under left tracks rest looks done) × (length under ≡ length under₀) × (length left ≡ length left₀)
     × (length tracks ≡ length tracks₀)
 
 abbrev μ-loop : tie.MeasureT-loop
-μ-loop first last nets upper head next under₀ left₀ count tracks₀ rest₀ done₀ under left tracks rest done = rest
+μ-loop first last nets upper head next under₀ left₀ count tracks₀ rest₀ looks₀ done₀ under left tracks rest looks done = rest
 
 abbrev At : Type 0
 At = tie.At-loop Inv-loop μ-loop
@@ -47,8 +47,17 @@ Scanned = tie.After-scan-track Inv-loop μ-loop
 abbrev turn : Scanned → tie.Else1 Inv-loop μ-loop
 turn a = a .before .before .before .before
 
-abbrev before : tie.After-slice-known6 Inv-loop μ-loop → Scanned
-before s = s .before .before .before .before .before .before
+abbrev counted : tie.After-struct-known Inv-loop μ-loop → Scanned
+counted s = s .before .before .before .before .before .before .before
+
+abbrev before : tie.After-struct-known2 Inv-loop μ-loop → Scanned
+before s = counted (s .before)
+
+add-looked : tie.Need-add-looked Inv-loop μ-loop
+add-looked c =
+    let a = counted c in
+    let b = start (turn a .before) .pre .begins in
+    omega (arith, few-looks b (turn a .before .loop .inv .0 _ b) (a .scan-track .ensures _) (turn a .if1 .left))
 
 loop-less : tie.Need-loop-less Inv-loop μ-loop
 loop-less c =
@@ -69,18 +78,19 @@ loop-again c =
     )
 
 returns : tie.Need-returns Inv-loop μ-loop
-returns c it b = placed-ends b (c .before .loop .inv .0 it b) (c .if1 .taken)
+returns c it b = placed-ends b (c .before .loop .inv .0 it b) (c .if1 .taken) (refl, refl)
 
 returns-2 : tie.Need-returns-2 Inv-loop μ-loop
 returns-2 c it b =
     let a = before (c .before) in
     stuck-ends b (turn a .before .loop .inv .0 it b) (a .scan-track .ensures it) (turn a .if1 .left) (c .if2 .taken)
+    (refl, refl)
 
 pub fill-items-spec : {M : Type 1} → statement M
 fill-items-spec =
     tie.close
     (tie.spec Inv-loop μ-loop loop-holds (λ c. omega (arith, small (c .before .before .before .before)))
-    scan-track-requires (λ c. omega (arith, small (turn (before (c .before)) .before))) loop-less loop-again
+    scan-track-requires add-looked (λ c. omega (arith, small (turn (before (c .before)) .before))) loop-less loop-again
     (λ c. c .before .loop .inv .1) (λ c. c .before .loop .inv .2) (λ c. c .before .loop .inv .3) returns
     (λ c. let a = before (c .before) in rw (a .scan-track .kept .1 .1 .1 .1 .1 .1 .0) (turn a .before .loop .inv .1))
     (λ c. let a = before (c .before) in rw (a .scan-track .kept .1 .1 .1 .1 .1 .1 .1 .0) (turn a .before .loop .inv .2))

@@ -3,6 +3,7 @@
 -- `takes` or `leaves`, and `all-seen` closes the return. Assumes nothing.
 use Prim.Native.Nat.{_-_, _≤_, _<_}
 use native.Mathlib.Omega.{arith}
+use mathlib.Core.Path.{refl}
 use mathlib.Core.List.{List}
 use mathlib.Core.Logic.{⊎-elim}
 use borrow.Author.Needs.{needs}
@@ -15,12 +16,12 @@ use Rattle.leftedge.proofs.tracks.scan_track.Statement.{statement}
 use Rattle.leftedge.proofs.tracks.scan_track.Tie as tie
 
 abbrev Inv-loop : tie.InvT-loop
-Inv-loop first last nets upper head next under₀ left₀ count tracks₀ k end₀ net₀ rest₀ i₀ under left tracks end net rest i =
+Inv-loop first last nets upper head next under₀ left₀ count tracks₀ k end₀ net₀ rest₀ looks₀ i₀ under left tracks end net rest looks i =
     (it : Items) (ps : List Place) → ScanBegins it ps first last nets upper head next under₀ left₀ count tracks₀
-    → SoFar it ps first nets under₀ left₀ count tracks₀ (k .0) under left tracks end net rest i
+    → SoFar it ps first nets under₀ left₀ count tracks₀ (k .0) under left tracks end net rest looks i
 
 abbrev μ-loop : tie.MeasureT-loop
-μ-loop first last nets upper head next under₀ left₀ count tracks₀ k end₀ net₀ rest₀ i₀ under left tracks end net rest i = count - i
+μ-loop first last nets upper head next under₀ left₀ count tracks₀ k end₀ net₀ rest₀ looks₀ i₀ under left tracks end net rest looks i = count - i
 
 abbrev At : Type 0
 At = tie.At-loop Inv-loop μ-loop
@@ -31,7 +32,7 @@ start t = t .before .before .before .before .before .before .before .before .bef
 -- the invariant at the items of `requires`, by which the turn is safe
 so-far : (t : At) → let a = start t .args in let l = t .loop in
     SoFar (start t .pre .it) (start t .pre .ps) (a .first .now) (a .nets .now) (a .under .now) (a .left .now) (a .count)
-    (a .tracks .now) (a .k .0) (l .under) (l .left) (l .tracks) (l .end) (l .net) (l .rest) (l .i)
+    (a .tracks .now) (a .k .0) (l .under) (l .left) (l .tracks) (l .end) (l .net) (l .rest) (l .looks) (l .i)
 so-far t = t .loop .inv _ _ (start t .pre .begins)
 
 abbrev Turn : Type 0
@@ -42,6 +43,10 @@ low : (c : Turn) → let a = start (c .before) .args in let l = c .before .loop 
     (l .i < length (l .left)) × (l .rest ≤ l .i) × (n < length (a .first .now)) × (n < length (a .last .now))
     × (n < length (a .head .now)) × (n < length (l .under)) × (n < length (l .tracks))
 low c = in-tables (start (c .before) .pre .begins) (so-far (c .before)) (c .loop-test .taken)
+
+-- no more items are looked at than there are
+within : (c : Turn) → c .before .loop .looks < start (c .before) .args .count
+within c = omega (arith, so-far (c .before) .counted, c .loop-test .taken)
 
 abbrev asked : tie.After-slice-known5 Inv-loop μ-loop → Turn
 asked c = c .before .before
@@ -82,7 +87,7 @@ loop-again-2 c it ps b =
     (c .if1 .came))
 
 returns : tie.Need-returns Inv-loop μ-loop
-returns c it ps b = all-seen b (c .before .loop .inv it ps b) (c .loop-test .left)
+returns c it ps b = all-seen b (c .before .loop .inv it ps b) (c .loop-test .left) (refl, refl)
 
 pub scan-track-spec : {M : Type 1} → statement M
 scan-track-spec =
@@ -92,8 +97,11 @@ scan-track-spec =
     (λ c κs. low (asked (c .before)) .2) (λ c. omega (arith, small c)) (λ c. low (chose c) .6)
     (λ c. omega (arith, small c)) (λ c. low (chose (c .before)) .3) (λ c κs. search needs)
     (λ c. omega (arith, small (c .before .before))) (λ c. low (chose (c .before .before .before)) .4)
-    lower-above-requires (λ c. omega arith) loop-again
+    lower-above-requires
+    (λ c. omega (arith, within (chose (c .before .before .before .before .before .before .before))))
+    (λ c. omega arith) loop-again
     (λ c. let l = low (asked (c .before)) in omega (arith, l .0, l .1))
     (λ c. let l = low (asked (c .before)) in omega (arith, l .0, l .1))
-    (λ c. let l = low (asked (c .before)) in omega (arith, l .0, l .1)) (λ c. omega arith) loop-again-2
+    (λ c. let l = low (asked (c .before)) in omega (arith, l .0, l .1))
+    (λ c. omega (arith, within (asked (c .before)))) (λ c. omega arith) loop-again-2
     (λ c. so-far (c .before) .long .0) (λ c. so-far (c .before) .long .1) (λ c. so-far (c .before) .long .2) returns)
