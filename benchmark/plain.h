@@ -79,6 +79,9 @@ struct plain_rows plain_leave_parked(const struct plain_rows *rows, struct plain
 
 void plain_find_spans(const struct plain_rows *rows, struct plain_spans *spans);
 
+/* The highest number of the rows. */
+uint32_t plain_highest(const struct plain_rows *rows);
+
 /* The nets with spans, in rising number; answers how many there are. */
 size_t plain_spanning(const struct plain_rows *rows, const struct plain_spans *spans, uint32_t items[PLAIN_NETS]);
 

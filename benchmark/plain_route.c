@@ -40,7 +40,8 @@ uint32_t plain_draw(const struct plain_rows *rows, const struct plain_spans *spa
                     uint32_t t, uint8_t *board)
 {
     struct pen pen = {rows, t, board + 4};
-    for (uint32_t n = 1; n < PLAIN_NETS; n++) {
+    uint32_t highest = plain_highest(rows);
+    for (uint32_t n = 1; n <= highest; n++) {
         uint32_t first = spans->first[n], last = spans->last[n];
         if (first < last)
             draw_span(&pen, n, tracks[n], first, last);

@@ -1,17 +1,17 @@
--- The nets with spans are the numbers, as far as the highest of the rows, whose first column is before their last; and
--- as items with spans their density is the channel's.
-use Prim.Native.Nat.{ℕ, _+_, _-_, _≤_, _<_}
+-- No net is above the highest number of the rows. The nets with spans are the numbers, as far as that, whose first
+-- column is before their last; and as items with spans their density is the channel's.
+use Prim.Native.Nat.{ℕ, max, _+_, _-_, _≤_, _<_}
 use native.Mathlib.Omega.{arith}
 use mathlib.Core.Path.{_≡_, refl, sym, _∙_, ap}
 use mathlib.Core.List.{List, [], _∷_, List·Memᴰ, List·Memᴰ·head}
 use mathlib.Core.Logic.{⊎-elim}
 use mathlib.Core.Bool.{Bool}
 use lib.ListN.{length, take, replicate, length-replicate}
-use lib.Dec.{ltb}
+use lib.Dec.{T, ltb}
 use Rattle.lists.specs.Lists.{keep, upTo, lastOr, greatest}
 use Rattle.lists.specs.Members.{keep-member, kept, upTo-member, in-upTo}
 use Rattle.lists.specs.Ends.{from-rising, keep-rising}
-use Rattle.lists.specs.Greatest.{at≤greatest}
+use Rattle.lists.specs.Greatest.{at≤greatest, greatest≤}
 use Rattle.lists.specs.Pigeonhole.{length-keep}
 use Rattle.lists.specs.Counts.{take-zeros}
 use Rattle.lists.specs.Arrays.{length-map-from, getD-numbered}
@@ -21,10 +21,11 @@ use Rattle.items.specs.OrderLaws.{sorted-same}
 use Rattle.items.specs.Density.{densest, Spanned}
 use Rattle.items.specs.DensityLaws.{densest-same}
 use Rattle.channel.specs.Channel.{Channel, width, widest, highestNet, pinColumns, firstColumn, lastColumn, nets}
-use Rattle.channel.specs.Channel.{hasSpan, spanning}
+use Rattle.channel.specs.Channel.{isNet, hasSpan, spanning}
 use Rattle.channel.specs.Density.{density}
 use Rattle.channel.specs.Answers.{Escapes}
 use Rattle.channel.specs.Spans.{firsts, lasts}
+use Rattle.channel.specs.EscapeLaws.{top-low, bot-low}
 use Rattle.channel.specs.Laws.{PinIn, pin-column, net→pin, pin-in-first, pin-in-last}
 use Rattle.channel.specs.SpanLaws.{span-strict, spanning→, →spanning, spanning-rising, pin→net}
 use Rattle.channel.specs.CountLaws.{nets-few}
@@ -53,31 +54,48 @@ last→pin ch n some = go (pinColumns ch n) refl
     go [] q = absurd (omega (arith, ap (lastOr 0) q))
     go (c ∷ cs) q = (c, pin-column ch n c (rw q (List·Memᴰ·head refl)))
 
-module _ (ch : Channel) (esc : Escapes ch) (h : ℕ) (low : h ≤ highestNet) (tops : greatest (ch .top) ≤ h)
-    (bots : greatest (ch .bot) ≤ h) where
-  pub spanning-numbers : spansTo (firsts ch) (lasts ch) h ≡ spanning ch
-  unfolding hasSpan
-  spanning-numbers =
-      rising-unique _ _ (keep-rising _ (upTo h) (from-rising 1 h)) (spanning-rising ch) to-spanning of-spanning
-    where
-      by-table : (n : ℕ) → n ≤ h → spansBy (firsts ch) (lasts ch) n ≡ hasSpan ch n
-      by-table n l = let t = columns ch n (omega arith) in rw (t .0, t .1)
+-- no number of the rows is above h, which is itself no higher than a net's may be
+pub record Highest (ch : Channel) (h : ℕ) : Type 0 where
+  pub low : h ≤ highestNet
+  pub tops : greatest (ch .top) ≤ h
+  pub bots : greatest (ch .bot) ≤ h
 
-      to-spanning : (n : ℕ) → List·Memᴰ n (spansTo (firsts ch) (lasts ch) h) → List·Memᴰ n (spanning ch)
-      to-spanning n m =
-          let k = keep-member (spansBy (firsts ch) (lasts ch)) (upTo h) m in
-          let r = upTo-member h (k .0) in
-          let s = span-strict ch n (rw (by-table n (r .1)) at (k .1)) in
-          let p = last→pin ch n (omega arith) in
-          →spanning ch n (pin→net ch esc n (p .0) (p .1)) s
+module _ (ch : Channel) (esc : Escapes ch) where
+  -- so it is of the greatest number of one row, and then of the other
+  pub highest-of : (u h : ℕ) → u ≡ max 0 (greatest (ch .top)) → h ≡ max u (greatest (ch .bot)) → Highest ch h
+  highest-of u h e f =
+      let t = greatest≤ (ch .top) highestNet (λ k. top-low ch k esc) in
+      let b = greatest≤ (ch .bot) highestNet (λ k. bot-low ch k esc) in
+      record { low = omega arith; tops = omega arith; bots = omega arith }
 
-      of-spanning : (n : ℕ) → List·Memᴰ n (spanning ch) → List·Memᴰ n (spansTo (firsts ch) (lasts ch) h)
-      of-spanning n m =
-          let s = spanning→ ch n m in
-          let p = net→pin ch n (esc .even) (s .0 .isNet) in
-          let most : n ≤ h = ⊎-elim (λ e. omega (arith, at≤greatest (ch .top) (p .0)))
-          (λ e. omega (arith, at≤greatest (ch .bot) (p .0))) (p .1 .pin) in
-          kept _ (in-upTo h n (s .0 .positive) most) (rw (by-table n most) (s .1))
+  module _ {h : ℕ} (most : Highest ch h) where
+    pub net≤highest : (n : ℕ) → T (isNet ch n) → n ≤ h
+    net≤highest n t =
+        let p = net→pin ch n (esc .even) t in
+        ⊎-elim (λ e. omega (arith, at≤greatest (ch .top) (p .0), most .tops))
+        (λ e. omega (arith, at≤greatest (ch .bot) (p .0), most .bots)) (p .1 .pin)
+
+    pub spanning-numbers : spansTo (firsts ch) (lasts ch) h ≡ spanning ch
+    unfolding hasSpan
+    spanning-numbers =
+        rising-unique _ _ (keep-rising _ (upTo h) (from-rising 1 h)) (spanning-rising ch) to-spanning of-spanning
+      where
+        by-table : (n : ℕ) → n ≤ h → spansBy (firsts ch) (lasts ch) n ≡ hasSpan ch n
+        by-table n l = let t = columns ch n (omega (arith, most .low)) in rw (t .0, t .1)
+
+        to-spanning : (n : ℕ) → List·Memᴰ n (spansTo (firsts ch) (lasts ch) h) → List·Memᴰ n (spanning ch)
+        to-spanning n m =
+            let k = keep-member (spansBy (firsts ch) (lasts ch)) (upTo h) m in
+            let r = upTo-member h (k .0) in
+            let s = span-strict ch n (rw (by-table n (r .1)) at (k .1)) in
+            let p = last→pin ch n (omega arith) in
+            →spanning ch n (pin→net ch esc n (p .0) (p .1)) s
+
+        of-spanning : (n : ℕ) → List·Memᴰ n (spanning ch) → List·Memᴰ n (spansTo (firsts ch) (lasts ch) h)
+        of-spanning n m =
+            let s = spanning→ ch n m in
+            let l = net≤highest n (s .0 .isNet) in
+            kept _ (in-upTo h n (s .0 .positive) l) (rw (by-table n l) (s .1))
 
 -- counts for columns 0 to w before anything is counted, lent from those of the widest channel
 unfoldable pub noCounts : ℕ → List ℕ

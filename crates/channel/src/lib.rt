@@ -9,6 +9,7 @@ pub use lower_bounds::bounds;
 pub use parked::remove_parked;
 use refusal::Refusal;
 pub use rows::check;
+pub use spanning::highest_number;
 pub use spanning::list_spanning;
 pub use spans::Spans;
 pub use spans::find_columns;

@@ -1,4 +1,4 @@
-// The nets with spans, as a list in rising number.
+// The highest number of the rows, and the nets with spans as a list in rising number.
 ghost use mathlib.Core.Path.{_≡_};
 ghost use Prim.Native.Nat.{max};
 ghost use lib.ListN.{length};
@@ -9,7 +9,7 @@ ghost use Rattle.channel.specs.Spans.{firsts, lasts};
 use grid::NET_SLOTS;
 
 // The greatest of `highest` and the numbers of a row.
-fn highest_number(row: &[u32], mut highest: u32) -> u32
+pub fn highest_number(row: &[u32], mut highest: u32) -> u32
     ensures { λ r. ⌜ r ≡ max highest (greatest (now (row .entry))) ⌝ }
 {
     let mut i: usize = 0;

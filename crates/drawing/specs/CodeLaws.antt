@@ -1,5 +1,5 @@
 -- What the code draws, part by part, is what the definitions draw: the pieces of a net by its first and last column,
--- and of a channel by which of 511 numbers have a first column.
+-- and of a channel by which numbers of the rows have a first column.
 use Prim.Native.Nat.{ℕ, zero, suc, _+_, _-_, _≤_, _<_}
 use native.Mathlib.Omega.{arith}
 use mathlib.Core.Path.{_≡_, refl, sym, _∙_, ap, subst, subst⁻¹}
@@ -30,6 +30,7 @@ use Rattle.channel.specs.Spans.{each512, SpansFound}
 use Rattle.channel.specs.Laws.{PinIn, pin-column, pin-after-first, pin-before-last, pin-in-first, pin-in-last}
 use Rattle.channel.specs.Laws.{net→pin}
 use Rattle.channel.specs.SpanLaws.{IsNet, nets→, →spanning}
+use Rattle.channel.specs.SpanningLaws.{Highest, net≤highest}
 use Rattle.boardfile.specs.Encode.{word, header, encode}
 use Rattle.boardfile.specs.Code.{SmallWords}
 use Rattle.leftedge.specs.Items.{Place, trackOf}
@@ -271,9 +272,14 @@ module _ (ch : Channel) (tracks : List Track) (t : ℕ) where
       unfolding nets drawnBy
       net-room h₁ h₂ e = next-room drawnNet (isNet ch) n h₁ so-far highestNet h₂ e drawing-room
 
-      pub drawing-ended : n ≡ highestNet + 1 → Put board b 0 j (drawnBy ch tracks t .pieces)
-      unfolding nets drawnBy below
-      drawing-ended e = subst (λ (m : ℕ). Put board b 0 j (each drawnNet (below (isNet ch) m))) e so-far
+      -- past the highest number of the rows all nets are drawn
+      pub drawing-ended : {top : ℕ} → Highest ch top → n ≡ top + 1 → Put board b 0 j (drawnBy ch tracks t .pieces)
+      unfolding nets drawnBy
+      drawing-ended {top} most e =
+          let low = most .low in
+          let all = below-end (isNet ch) highestNet n (omega arith) (omega arith)
+          (λ k past l net. absurd (omega (arith, net≤highest ch (h .tracked .escapes) most k net))) in
+          subst (λ (ns : List ℕ). Put board b 0 j (each drawnNet ns)) all so-far
 
     -- with the header in front it is the board file
     pub drawing-done : {b board′ : List ℕ} {j : ℕ} → Put board b 0 j (drawnBy ch tracks t .pieces)

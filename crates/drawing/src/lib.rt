@@ -13,7 +13,6 @@ ghost use Rattle.drawing.specs.Putting.{Room, Put};
 ghost use Rattle.drawing.specs.Code.{StandsIn, drawnBy, Drawable, BoardDrawn};
 use channel::Spans;
 use grid::Column;
-use grid::HIGHEST_NET;
 use grid::NET_SLOTS;
 use grid::Net;
 use grid::Piece;
@@ -159,7 +158,8 @@ fn draw_net(
 }
 
 // Draws a filled channel into a lent board that has room for it, header first, nets in rising number; the remainder
-// stays. Answers the number of pieces. t is the number of tracks.
+// stays. Answers the number of pieces. t is the number of tracks. No number is looked at that is above those of the
+// rows.
 pub fn draw_board(
     top: &[u32],
     bot: &[u32],
@@ -177,9 +177,11 @@ pub fn draw_board(
 {
     let firsts = spans.first;
     let lasts = spans.last;
+    let upper = channel::highest_number(top, 0);
+    let highest = channel::highest_number(bot, upper);
     let mut count: u32 = 0;
     let mut n: u32 = 1;
-    while n <= HIGHEST_NET {
+    while n <= highest {
         let i = n as usize;
         let first = firsts[i];
         if first.0 != 0 {

@@ -1,19 +1,17 @@
 -- `channel::spanning::list_spanning` meets its contract. The loop's invariant is `Collected`: of the numbers from 1 to
 -- n those with spans, by the tables, stand at the front of `items`. What is left to the highest number falls.
-use Prim.Native.Nat.{ℕ, max, _+_, _≤_, _<_, _-_, _*_}
+use Prim.Native.Nat.{ℕ, _+_, _≤_, _<_, _-_, _*_}
 use native.Mathlib.Omega.{arith}
 use mathlib.Core.Path.{_≡_, _∙_, ap₂}
 use lib.ListN.{length, getD}
 use borrow.Author.Needs.{needs, fits-under}
 use borrow.Author.Tests.{lt-ltb, le-ltb}
-use Rattle.lists.specs.Lists.{upTo, at, greatest}
+use Rattle.lists.specs.Lists.{upTo, at}
 use Rattle.lists.specs.Places.{length-from, place-from, at-place}
-use Rattle.lists.specs.Greatest.{greatest≤}
 use Rattle.lists.specs.Collects.{Collected, collected-none, collected-few, collected-takes, collected-skips}
 use Rattle.lists.specs.Collects.{collected-long, collected-all}
 use Rattle.channel.specs.Channel.{Channel, rows}
-use Rattle.channel.specs.EscapeLaws.{top-low, bot-low}
-use Rattle.channel.specs.SpanningLaws.{spansBy, spansTo, spanning-numbers}
+use Rattle.channel.specs.SpanningLaws.{spansBy, spansTo, Highest, highest-of, spanning-numbers}
 use Rattle.channel.proofs.spanning.list_spanning.Statement.{statement}
 use Rattle.channel.proofs.spanning.list_spanning.Tie as tie
 
@@ -33,27 +31,20 @@ channel j = rows (start j .args .top .now) (start j .args .bot .now)
 abbrev found : tie.After-highest-number2 Inv-loop μ-loop → ℕ
 found j = j .highest-number2 .result
 
--- the highest number of the rows
-highest-of : (t b u h : ℕ) → u ≡ max 0 t → h ≡ max u b → t ≤ 511 → b ≤ 511 → (t ≤ h) × (b ≤ h) × (h ≤ 511)
-highest-of t b u h e f k l = (omega arith, omega arith, omega arith)
-
 under : {h : ℕ} → h ≤ 511 → h < 512
 under l = omega arith
 
-highest : (j : tie.After-highest-number2 Inv-loop μ-loop)
-    → (greatest (channel j .top) ≤ found j) × (greatest (channel j .bot) ≤ found j) × (found j ≤ 511)
+highest : (j : tie.After-highest-number2 Inv-loop μ-loop) → Highest (channel j) (found j)
 highest j =
-    let esc = start j .pre .0 .escapes in
-    highest-of _ _ _ _ (j .before .highest-number .ensures) (j .highest-number2 .ensures)
-    (greatest≤ (channel j .top) 511 (λ k. top-low (channel j) k esc))
-    (greatest≤ (channel j .bot) 511 (λ k. bot-low (channel j) k esc))
+    highest-of (channel j) (start j .pre .0 .escapes) _ _ (j .before .highest-number .ensures)
+    (j .highest-number2 .ensures)
 
 -- there is a place for each number up to it
 room-for : (h k : ℕ) → h ≤ 511 → k ≡ 512 → length (upTo h) ≤ k
 room-for h k l e = omega (arith, length-from 1 h)
 
 room : (j : tie.After-highest-number2 Inv-loop μ-loop) → length (upTo (found j)) ≤ length (start j .args .items .now)
-room j = room-for (found j) _ (highest j .2) (start j .pre .3)
+room j = room-for (found j) _ (highest j .low) (start j .pre .3)
 
 long : (l : tie.At-loop Inv-loop μ-loop) → length (l .loop .items) ≡ length (start (l .before) .args .items .now)
 long l = collected-long _ _ _ _ _ _ (room (l .before)) (l .loop .inv)
@@ -91,7 +82,7 @@ turn : (c : tie.In-loop Inv-loop μ-loop) → let l = c .before .loop in
 turn c =
     let l = c .before .loop in
     let h = found (c .before .before) in
-    turn-of h (l .n) (l .count) (c .loop-test .taken) (highest (c .before .before) .2)
+    turn-of h (l .n) (l .count) (c .loop-test .taken) (highest (c .before .before) .low)
     (collected-few _ _ _ _ _ _ (l .inv) (ahead-of h (l .n) (c .loop-test .taken)))
 
 abbrev taking : tie.Then1 Inv-loop μ-loop → tie.In-loop Inv-loop μ-loop
@@ -121,17 +112,16 @@ returns : tie.Need-returns Inv-loop μ-loop
 returns c =
     let j = c .before .before in
     let p = start j .pre in
-    let m = highest j in
     let h = found j in
     let e = ap₂ (λ first last. spansTo first last h) (p .1) (p .2)
-    ∙ spanning-numbers (channel j) (p .0 .escapes) h (m .2) (m .0) (m .1) in
+    ∙ spanning-numbers (channel j) (p .0 .escapes) (highest j) in
     rw e at (collected-all _ _ _ _ _ _ (all-of h _ (c .loop-test .left)) (c .before .loop .inv))
 
 pub list-spanning-spec : {M : Type 1} → statement M
 list-spanning-spec =
     tie.close
     (tie.spec Inv-loop μ-loop (λ c κs. search needs) (λ c κs. search needs)
-    (λ c. fits-under _ _ 512 (under (highest c .2)) tt) (λ c. collected-none _ _ _)
+    (λ c. fits-under _ _ 512 (under (highest c .low)) tt) (λ c. collected-none _ _ _)
     (λ c. fits-under _ _ 512 (turn c .low) tt) (λ c. fits-under _ _ 2048 (turn c .place) tt) (λ c. turn c .low)
     (λ c. fits-under _ _ 2048 (turn (c .before) .place) tt) (λ c. turn (c .before) .low)
     (λ c. fits-under _ _ 512 (turn (taking c) .low) tt) (λ c. fits-under _ _ 2048 (turn (taking c) .free-place) tt)
