@@ -119,5 +119,6 @@ draw-board-spec =
     (tie.spec Inv-loop μ-loop (λ c κs. search needs) (λ c κs. search needs) loop-holds (λ c. omega (arith, low c))
     (λ c. omega (arith, low c)) (λ c. omega (arith, low c)) (λ c. omega (arith, low (passed c)))
     (λ c. omega (arith, low (passed c))) (λ c. omega (arith, low (passed (c .before))))
-    (λ c. omega (arith, low (passed (c .before)))) draw-net-requires (λ c. omega (arith, low (c .before .before .before))) (λ c. omega arith) loop-again
-    cast-put-header put-header-requires same-length returns)
+    (λ c. omega (arith, low (passed (c .before)))) draw-net-requires
+    (λ c. omega (arith, low (c .before .before .before))) (λ c. omega arith) loop-again cast-put-header
+    put-header-requires same-length returns)
