@@ -61,7 +61,7 @@ pub record Highest (ch : Channel) (h : ℕ) : Type 0 where
   pub bots : greatest (ch .bot) ≤ h
 
 module _ (ch : Channel) (esc : Escapes ch) where
-  -- so it is of the greatest number of one row, and then of the other
+  -- what one row's greatest number, and then the other's, comes to is such a number
   pub highest-of : (u h : ℕ) → u ≡ max 0 (greatest (ch .top)) → h ≡ max u (greatest (ch .bot)) → Highest ch h
   highest-of u h e f =
       let t = greatest≤ (ch .top) highestNet (λ k. top-low ch k esc) in

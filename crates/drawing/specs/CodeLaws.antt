@@ -273,9 +273,9 @@ module _ (ch : Channel) (tracks : List Track) (t : ℕ) where
       net-room h₁ h₂ e = next-room drawnNet (isNet ch) n h₁ so-far highestNet h₂ e drawing-room
 
       -- past the highest number of the rows all nets are drawn
-      pub drawing-ended : {top : ℕ} → Highest ch top → n ≡ top + 1 → Put board b 0 j (drawnBy ch tracks t .pieces)
+      pub drawing-ended : {m : ℕ} → Highest ch m → n ≡ m + 1 → Put board b 0 j (drawnBy ch tracks t .pieces)
       unfolding nets drawnBy
-      drawing-ended {top} most e =
+      drawing-ended most e =
           let low = most .low in
           let all = below-end (isNet ch) highestNet n (omega arith) (omega arith)
           (λ k past l net. absurd (omega (arith, net≤highest ch (h .tracked .escapes) most k net))) in
