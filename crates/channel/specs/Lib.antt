@@ -10,6 +10,7 @@ pub mod EscapeLaws
 pub mod Promise
 pub mod SpanLaws
 pub mod ParkedLaws
+pub mod SameLaws
 pub mod CountLaws
 pub mod PathLaws
 pub mod ChainLaws
@@ -21,6 +22,8 @@ pub mod AnswerLaws
 pub mod BoundLaws
 pub mod NoteLaws
 pub mod ShownLaws
+pub mod Turned
+pub mod TurnLaws
 pub mod RemoveLaws
 pub mod OnceLaws
 pub mod ToldLaws

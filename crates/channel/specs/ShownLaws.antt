@@ -8,7 +8,7 @@ use mathlib.Core.Logic.{_↔_, _⊎_, inl, inr, ⊎-elim}
 use mathlib.Core.Bool.{cond}
 use lib.ListN.{length, length-map}
 use lib.Dec.{T, leb, eqb, eqb→eq}
-use Rattle.lists.specs.Lists.{keep, upTo, headOr, lastOr, greatest, at}
+use Rattle.lists.specs.Lists.{keep, upTo, greatest, at}
 use Rattle.lists.specs.Tests.{T→true, fails→false, same-test, eq→T, passes?}
 use Rattle.lists.specs.Members.{keep-member}
 use Rattle.lists.specs.Ends.{at-map, at-inside, member-at}
@@ -18,8 +18,8 @@ use Rattle.lists.specs.Tallies.{keep-same}
 use Rattle.lists.specs.Updates.{map-same}
 use Rattle.channel.specs.Channel.{Channel, width, positions, pinCount, isParked, isNet, unlessParked}
 use Rattle.channel.specs.Channel.{withoutParked}
-use Rattle.channel.specs.Channel.{stands, hasPin, pinColumns, firstColumn, lastColumn, nets, hasSpan, spanning}
-use Rattle.channel.specs.Density.{Span, spansOf, density}
+use Rattle.channel.specs.Channel.{stands, hasPin, firstColumn, lastColumn, nets, spanning}
+use Rattle.channel.specs.Density.{density}
 use Rattle.channel.specs.Constraints.{Above, above, Drop, drops, below, depth, chain, Step, Descends, last, next}
 use Rattle.channel.specs.Constraints.{Tangled}
 use Rattle.channel.specs.Answers.{Escapes}
@@ -28,6 +28,7 @@ use Rattle.channel.specs.Parked.{NetsOnly}
 use Rattle.channel.specs.Laws.{net-positive, net-counted, counted-net, above→, →above, PinAmong, top-holds}
 use Rattle.channel.specs.Laws.{bot-holds}
 use Rattle.channel.specs.ParkedLaws.{parked-no-net, pin-parked}
+use Rattle.channel.specs.SameLaws.{SamePins, same-first, same-last, same-nets, same-spanning, same-density}
 
 module _ (ch : Channel) where
   abbrev shown : Channel
@@ -135,19 +136,14 @@ module _ (ch : Channel) where
       ⊎-elim (λ t. rw (net-shown n, stands-shown n c t)) (λ f. rw (net-shown n, fails→false (isNet ch n) f))
       (passes? (isNet ch n))
 
-  pub columns-shown : (n : ℕ) → pinColumns shown n ≡ pinColumns ch n
-  unfolding pinColumns
-  columns-shown n =
-      ap (λ (w : ℕ). keep (hasPin shown n) (upTo w)) width-shown
-      ∙ keep-same (hasPin shown n) (hasPin ch n) (upTo (width ch)) (λ c m. pin-shown n c)
+  same-pins : SamePins shown ch
+  same-pins = record { wide = width-shown; net = net-shown; pin = pin-shown }
 
   pub first-shown : (n : ℕ) → firstColumn shown n ≡ firstColumn ch n
-  unfolding firstColumn
-  first-shown n = ap (headOr 0) (columns-shown n)
+  first-shown = same-first same-pins
 
   pub last-shown : (n : ℕ) → lastColumn shown n ≡ lastColumn ch n
-  unfolding lastColumn
-  last-shown n = ap (lastOr 0) (columns-shown n)
+  last-shown = same-last same-pins
 
   pub firsts-shown : firsts shown ≡ firsts ch
   firsts-shown = numbered-same (firstColumn shown) (firstColumn ch) 512 (λ n below. first-shown n)
@@ -155,19 +151,8 @@ module _ (ch : Channel) where
   pub lasts-shown : lasts shown ≡ lasts ch
   lasts-shown = numbered-same (lastColumn shown) (lastColumn ch) 512 (λ n below. last-shown n)
 
-  pub nets-shown : nets shown ≡ nets ch
-  unfolding nets
-  nets-shown = keep-same (isNet shown) (isNet ch) _ (λ n m. net-shown n)
-
-  pub span-shown : (n : ℕ) → hasSpan shown n ≡ hasSpan ch n
-  unfolding hasSpan
-  span-shown n = rw (first-shown n, last-shown n)
-
   pub spanning-shown : spanning shown ≡ spanning ch
-  unfolding spanning
-  spanning-shown =
-      ap (keep (hasSpan shown)) nets-shown
-      ∙ keep-same (hasSpan shown) (hasSpan ch) (nets ch) (λ n m. span-shown n)
+  spanning-shown = same-spanning same-pins
 
   pub starting-shown : (c : ℕ) → starting shown c ≡ starting ch c
   unfolding starting
@@ -176,17 +161,8 @@ module _ (ch : Channel) where
       ∙ keep-same (λ n. eqb (firstColumn shown n) c) (λ n. eqb (firstColumn ch n) c) (spanning ch)
       (λ n m. ap (λ (k : ℕ). eqb k c) (first-shown n))
 
-  spans-shown : spansOf shown ≡ spansOf ch
-  unfolding spansOf
-  spans-shown =
-      ap (map (λ n. record { first = firstColumn shown n; last = lastColumn shown n })) spanning-shown
-      ∙ map-same {B = Span} (λ n. record { first = firstColumn shown n; last = lastColumn shown n })
-      (λ n. record { first = firstColumn ch n; last = lastColumn ch n }) (spanning ch)
-      (λ n m. rw (first-shown n, last-shown n))
-
   pub density-shown : density shown ≡ density ch
-  unfolding density
-  density-shown = rw (spans-shown, width-shown)
+  density-shown = same-density same-pins
 
   -- which net is above which
   pub shown→above : {a b c : ℕ} → Above shown a b c → Above ch a b c
@@ -250,12 +226,12 @@ module _ (ch : Channel) where
   unfolding chain
   chain-shown =
       let most = ap (λ (l : List ℕ). greatest (map (depth (suc (length (nets shown))) shown) l)) spanning-shown
-      ∙ (ap (λ (l : List ℕ). greatest (map (depth (suc (length l)) shown) (spanning ch))) nets-shown
+      ∙ (ap (λ (l : List ℕ). greatest (map (depth (suc (length l)) shown) (spanning ch))) (same-nets same-pins)
       ∙ ap greatest (map-same (depth (suc (length (nets ch))) shown) (depth (suc (length (nets ch))) ch) (spanning ch)
       (λ n m. depth-shown (suc (length (nets ch))) n))) in
       ap (λ (m : ℕ). cond (leb m (length (nets shown))) m 0) most
       ∙ ap (λ (l : List ℕ). cond (leb (greatest (map (depth (suc (length (nets ch))) ch) (spanning ch))) (length l))
-      (greatest (map (depth (suc (length (nets ch))) ch) (spanning ch))) 0) nets-shown
+      (greatest (map (depth (suc (length (nets ch))) ch) (spanning ch))) 0) (same-nets same-pins)
 
   -- 02, Req 04: "Tangled channels are those that stay so with the parked pins removed"
   pub tangled-shown : Tangled ch ↔ Tangled shown

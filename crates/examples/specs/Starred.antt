@@ -1,6 +1,6 @@
--- 01, "Bench examples (* proved)", and 02, Reqs 01, 04 and 07: A to J, and K, come out of the definitions as the paper
--- prints them, padded lists with CR LF as Req 01 says, channels with parked pins as Req 04 says, and looks as Req 07
--- says, by one computed check.
+-- 01, "Bench examples (* proved)", and 02, Reqs 01, 02, 04 and 07: A to J, and K, come out of the definitions as the
+-- paper prints them, padded lists with CR LF as Req 01 says, lists turned over as Req 02 says, channels with parked pins
+-- as Req 04 says, and looks as Req 07 says, by one computed check.
 use Prim.Native.Nat.{ℕ, zero, suc}
 use mathlib.Core.Path.{_≡_, refl}
 use mathlib.Core.List.{List, [], _∷_, _++_, map}
@@ -13,15 +13,17 @@ use Rattle.refusal.specs.Refusals.{refuseIf, refuseAtFirst, _or-else_, answered
 use Rattle.refusal.specs.Trays.{shortTray, scratchTray}
 use Rattle.grid.specs.declared.Piece.{Piece}
 use Rattle.grid.specs.declared.Piece.the-variants.{Trunk, Branch, Contact}
-use Rattle.grid.specs.Pieces.{column, track, row, kindOf, left, right, low, high}
+use Rattle.grid.specs.Pieces.{column, track, row, kindOf, left, right, low, high, Layout}
+use Rattle.grid.specs.Flipped.{over, flip, flipped}
 use Rattle.grid.specs.Words.{lineOf, fromOf, toOf, fieldsRight, makePiece}
 use Rattle.grid.specs.Touching.{kindsMeet, pinMeets, covers, touches}
-use Rattle.channel.specs.Channel.{width, pinCount, isNet, pinColumns, firstColumn, lastColumn}
+use Rattle.channel.specs.Channel.{Channel, width, pinCount, isNet, pinColumns, firstColumn, lastColumn}
 use Rattle.channel.specs.Channel.{nets, hasSpan, spanning}
 use Rattle.channel.specs.Spans.{starting}
 use Rattle.channel.specs.Density.{spansOver, spansOf, density}
 use Rattle.channel.specs.Constraints.{above, drops, depth, chain}
 use Rattle.channel.specs.Answers.{tooWide, uneven, highNet, rowsRefusal, boundsAnswer, boundsTold}
+use Rattle.channel.specs.Turned.{turned}
 use Rattle.wiring.specs.Pins.{columnOf, rowOf, netOf, pinTouches}
 use Rattle.pinlist.specs.Reader.{afterNumber, firstDigit, lineStep, topStep, botStep, step, atEnd, readFrom, readText}
 use Rattle.pinlist.specs.Answers.{garbledRefusal, channelOf, textChannel, textRefusal}
@@ -53,6 +55,12 @@ same [] [] = true
 same [] (y ∷ ys) = false
 same (x ∷ xs) [] = false
 same (x ∷ xs) (y ∷ ys) = eqb x y && same xs ys
+
+abbrev sameLists : List (List ℕ) → List (List ℕ) → Bool
+sameLists [] [] = true
+sameLists [] (y ∷ ys) = false
+sameLists (x ∷ xs) [] = false
+sameLists (x ∷ xs) (y ∷ ys) = same x y && sameLists xs ys
 
 abbrev all : List Bool → Bool
 all [] = true
@@ -106,11 +114,12 @@ between = bytes "TOP 1 2 1\nBOT 0 0 0\n"
 abbrev stub : Piece
 stub = Branch (column 2) (row 1) (row 2)
 
--- what the router tells of rows with buffers of the sizes asked: the number, then the values
+-- what the router tells of a channel with buffers of the sizes asked: the number, then the values
+abbrev channelRouted : Channel → List ℕ
+channelRouted ch = let told = routeTold (routeAnswer (routeTrays 1022 10240) ch) in told .number ∷ told .values
+
 abbrev routed : List ℕ → List ℕ
-routed text =
-    let told = routeTold (routeAnswer (routeTrays 1022 10240) (textChannel text)) in
-    told .number ∷ told .values
+routed text = channelRouted (textChannel text)
 
 -- the track of each net
 abbrev tracks : List ℕ → List ℕ
@@ -135,15 +144,35 @@ besideC = bytes "TOP 1 2 3 3\nBOT 2 1 0 0\n"
 abbrev bound : List ℕ → List ℕ
 bound text = boundsTold (boundsAnswer (textChannel text)) .values
 
--- the board file of a channel with its pieces changed, judged: the number, then the values
+-- the board file of a layout, judged for a channel: the number, then the values
+abbrev layoutJudged : Channel → Layout → List ℕ
+layoutJudged ch l =
+    let told = judgeTold (judgeAnswer ch (encode (width ch) l) scratchTray) in told .number ∷ told .values
+
+-- the layout of a channel with its pieces changed, judged
 abbrev judgedWith : List ℕ → (List Piece → List Piece) → List ℕ
 judgedWith text change =
     let ch = textChannel text in
     let l = layoutDrawn ch (fill ch) in
-    let told =
-    judgeTold (judgeAnswer ch (encode (width ch) (record { tracks = l .tracks; pieces = change (l .pieces) }))
-    scratchTray) in
-    told .number ∷ told .values
+    layoutJudged ch (record { tracks = l .tracks; pieces = change (l .pieces) })
+
+-- 02, Req 02: the smallest list for which the left-edge rule takes more tracks one way up than the other
+abbrev lopsided : List ℕ
+lopsided = bytes "TOP 1 2 1 3 3\nBOT 0 0 0 0 2\n"
+
+-- of the list turned over: what the router tells, density and chain, and the drawing turned over and judged for it
+abbrev turnedOver : List ℕ → List (List ℕ)
+turnedOver text =
+    let ch = textChannel text in
+    channelRouted (turned ch)
+    ∷ boundsTold (boundsAnswer (turned ch)) .values
+    ∷ layoutJudged (turned ch) (flipped (layoutDrawn ch (fill ch)))
+    ∷ []
+
+-- and the other way about: the turned list's drawing, turned over and judged for the list
+abbrev backOver : List ℕ → List ℕ
+backOver text =
+    let ch = textChannel text in layoutJudged ch (flipped (layoutDrawn (turned ch) (fill (turned ch))))
 
 -- the pieces without the one in place i, from 1
 abbrev without : ℕ → List Piece → List Piece
@@ -205,12 +234,22 @@ pub starred :
     -- a straight net has no span, and a parked one neither
     ∷ same (looked textG) (0 ∷ 0 ∷ 0 ∷ [])
     ∷ same (looked textL) (0 ∷ 0 ∷ 0 ∷ [])
+    -- density and chain are 2 both ways. From below, track 1 takes net 1 alone, for net 3 waits for net 2: 3 tracks.
+    -- Turned over it takes nets 1 and 3: 2 tracks, and that copper turned back is a good board of the first list
+    ∷ same (routed lopsided) (0 ∷ 15 ∷ 3 ∷ [])
+    ∷ same (bound lopsided) (2 ∷ 2 ∷ [])
+    ∷ sameLists (turnedOver lopsided) ((0 ∷ 15 ∷ 2 ∷ []) ∷ (2 ∷ 2 ∷ []) ∷ (0 ∷ 3 ∷ []) ∷ [])
+    ∷ same (backOver lopsided) (0 ∷ 2 ∷ [])
+    -- B takes one track more turned over; C and D stay tangled, with rings of their own
+    ∷ sameLists (turnedOver textB) ((0 ∷ 30 ∷ 6 ∷ []) ∷ (4 ∷ 3 ∷ []) ∷ (0 ∷ 5 ∷ []) ∷ [])
+    ∷ same (channelRouted (turned (textChannel textC))) (7 ∷ 2 ∷ [])
+    ∷ same (channelRouted (turned (textChannel textD))) (7 ∷ 2 ∷ [])
     ∷ [])
     ≡ true
 unfolding
     keep each anyOf allOf from headOr lastOr greatest least at bytes digitsOf refuseIf refuseAtFirst _or-else_ answered
     filledUnless shortTray
-    kindOf left right low high lineOf fromOf toOf fieldsRight makePiece kindsMeet pinMeets covers touches
+    kindOf left right low high over flip lineOf fromOf toOf fieldsRight makePiece kindsMeet pinMeets covers touches
     pinCount isNet pinColumns firstColumn lastColumn nets hasSpan spanning
     spansOver spansOf density above drops depth chain
     tooWide uneven highNet rowsRefusal boundsAnswer boundsTold columnOf rowOf netOf pinTouches

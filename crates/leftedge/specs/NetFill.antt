@@ -1,5 +1,5 @@
 -- The fill of a channel's nets: what `FilledBy` and `StuckWith` say in the words of nets, spans and rings.
-use Prim.Native.Nat.{ℕ, _≤_, _<_}
+use Prim.Native.Nat.{ℕ, _≤_}
 use native.Mathlib.Omega.{arith}
 use mathlib.Core.Path.{_≡_, subst}
 use mathlib.Core.List.{List}
@@ -8,14 +8,14 @@ use Rattle.lists.specs.Ranges.{no-member→empty}
 use Rattle.lists.specs.Pigeonhole.{pigeonhole}
 use Rattle.channel.specs.Channel.{Channel, width, firstColumn, lastColumn, nets, spanning}
 use Rattle.channel.specs.Density.{density}
-use Rattle.channel.specs.Constraints.{drops, Above, Path↓, alone, down, Step, netsOf, Descends, last, next, Ring}
+use Rattle.channel.specs.Constraints.{drops, Above, Step, netsOf, Descends, last, next, Ring}
 use Rattle.channel.specs.Constraints.{Unconstrained}
 use Rattle.channel.specs.Answers.{Escapes}
 use Rattle.channel.specs.Laws.{drop→above}
-use Rattle.channel.specs.SpanLaws.{spanning→, upper-spans, →nets}
+use Rattle.channel.specs.SpanLaws.{spanning→, →nets}
 use Rattle.items.specs.DensityLaws.{densest-within}
 use Rattle.channel.specs.DensityLaws.{density-densest}
-use Rattle.leftedge.specs.Items.{Place, trackOf}
+use Rattle.leftedge.specs.Items.{Place}
 use Rattle.leftedge.specs.Fill.{filled, stuck}
 use Rattle.leftedge.specs.Walk.{ringOf}
 use Rattle.leftedge.specs.Looks.{itemLooks, ceiling}
@@ -25,9 +25,9 @@ use Rattle.leftedge.specs.Invariants.{Falls, FilledBy, StuckWith}
 use Rattle.leftedge.specs.FillLaws.{fill-filled, fill-stuck}
 use Rattle.leftedge.specs.WalkLaws.{walk-ring}
 use Rattle.leftedge.specs.SpanFill.{Spanning, tracks≤density as fewest}
-use Rattle.leftedge.specs.NetLaws.{nets-orderly, order→spanning, spanning→order, starts-inside}
+use Rattle.leftedge.specs.NetLaws.{nets-orderly, order→spanning, starts-inside}
 use Rattle.leftedge.specs.NetLaws.{order-length, before-starts, →fits-after}
-use Rattle.leftedge.specs.NetLaws.{falls→above, above→falls}
+use Rattle.leftedge.specs.NetLaws.{falls→above}
 
 module _ (ch : Channel) (esc : Escapes ch) where
   pub nets-filled : (t : ℕ) (ps : List Place) → fill ch ≡ filled t ps → FilledBy (netItems ch) t ps
@@ -65,15 +65,6 @@ module _ (ch : Channel) (esc : Escapes ch) where
       (λ n m. →nets ch n (spanning→ ch n (order→spanning ch n (s .items n (r .inside n m))) .0))
 
   module _ (t : ℕ) (ps : List Place) (f : FilledBy (netItems ch) t ps) where
-    pub above-track : (a b c : ℕ) → Above ch a b c → trackOf ps b < trackOf ps a
-    above-track a b c h =
-        f .lower a b c (spanning→order ch (esc .even) a (upper-spans ch esc h)) (above→falls ch a b c h)
-
-    -- a path has no more nets than its upper net's track
-    pub path≤track : {k a b : ℕ} → Path↓ ch k a b → k ≤ trackOf ps a
-    path≤track (alone {a = n} s) = f .tracked n (spanning→order ch (esc .even) n s) .0
-    path≤track (down {a = n} {b = m} c h p) = let r = path≤track p in let l = above-track n m c h in omega arith
-
     pub tracks≤nets : t ≤ length (nets ch)
     tracks≤nets =
         let few = f .few in

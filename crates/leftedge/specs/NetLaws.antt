@@ -12,7 +12,7 @@ use Rattle.items.specs.OrderLaws.{sorted→, →sorted, sorted-distinct, sorted
 use Rattle.channel.specs.Channel.{Channel, width, firstColumn, lastColumn, spanning}
 use Rattle.channel.specs.Constraints.{Above}
 use Rattle.channel.specs.Answers.{Escapes}
-use Rattle.channel.specs.Laws.{drop→above, above→drop, net→pin, pin-in-first, pin-after-first, pin-before-last}
+use Rattle.channel.specs.Laws.{drop→above, net→pin, pin-in-first, pin-after-first, pin-before-last}
 use Rattle.channel.specs.SpanLaws.{spanning→, spanning-small, lower-spans, upper-pin, lower-pin}
 use Rattle.channel.specs.Spans.{starting}
 use Rattle.leftedge.specs.Nets.{fillOrder, netItems}
@@ -67,10 +67,6 @@ unfolding netItems
 pub falls→above : (ch : Channel) (a b c : ℕ) → Falls (netItems ch) a b c → Above ch a b c
 unfolding netItems
 falls→above ch a b c m = drop→above ch a (record { column = c; lower = b }) m
-
-pub above→falls : (ch : Channel) (a b c : ℕ) → Above ch a b c → Falls (netItems ch) a b c
-unfolding netItems
-above→falls ch a b c h = above→drop ch a b c h
 
 pub nets-orderly : (ch : Channel) → Escapes ch → Orderly (netItems ch)
 nets-orderly ch esc = record { distinct = distinct; inside = inside; chained = chained; apart = apart }

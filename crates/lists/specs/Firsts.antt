@@ -1,9 +1,10 @@
--- The first number of a range that passes a test: none passes, or it is the lowest that does.
+-- The first number of a range that passes a test: none passes, or it is the lowest that does. And equal conditions have
+-- the same lowest.
 use Prim.Native.Nat.{ℕ, zero, suc, _+_, _≤_, _<_}
 use native.Mathlib.Omega.{arith}
 use mathlib.Core.Path.{_≡_, refl, subst}
 use mathlib.Core.List.{List, [], _∷_}
-use mathlib.Core.Logic.{_⊎_, ⊎-elim}
+use mathlib.Core.Logic.{_↔_, _⊎_, ⊎-elim}
 use mathlib.Core.Bool.{Bool, true, false, cond}
 use lib.Dec.{T}
 use Rattle.lists.specs.Lists.{keep, from, Lowest}
@@ -57,3 +58,10 @@ first-kept f a (suc n) = go (f a) refl (first-kept f (suc a) n)
           lowest = λ q h. h .low;
         })
     go false e rest = past e rest
+
+-- numbers of which the same holds have the same lowest
+pub lowest-same : {P Q : ℕ → Type 0} → ((n : ℕ) → P n ↔ Q n) → (p : ℕ) → Lowest P p ↔ Lowest Q p
+lowest-same h p = (
+  λ l. record { holds = h p .0 (l .holds); lowest = λ q k. l .lowest q (h q .1 k) },
+  λ l. record { holds = h p .1 (l .holds); lowest = λ q k. l .lowest q (h q .0 k) },
+)

@@ -23,6 +23,15 @@ map-same f g (x ∷ xs) h =
     let rest = map-same f g xs (λ y m. h y (List·Memᴰ·tail m)) in
     cc
 
+-- what g undoes for the members it undoes for the list
+pub map-undone : {A B : Type 0} (f : A → B) (g : B → A) (xs : List A) → ((x : A) → List·Memᴰ x xs → g (f x) ≡ x)
+    → map g (map f xs) ≡ xs
+map-undone f g [] h = refl
+map-undone f g (x ∷ xs) h =
+    let here = h x (List·Memᴰ·head refl) in
+    let rest = map-undone f g xs (λ y m. h y (List·Memᴰ·tail m)) in
+    cc
+
 -- a store at place j of what f gives makes what g gives, if g gives the new number for j and differs from f nowhere
 -- else
 pub set-gives : (f g : ℕ → ℕ) (m j v : ℕ) → j < m → g j ≡ v → ((k : ℕ) → k < m → (k ≡ j → ⊥) → f k ≡ g k)

@@ -1,3 +1,5 @@
 pub mod Router
 pub mod Bounds
+pub mod Turned
 pub mod Proved
+pub mod TurnProved

@@ -1,8 +1,7 @@
 -- Demand 3 and Req 04 of 02, proved for every channel that escapes refusals 3 to 5. A filled channel's drawing is a
 -- good layout with one trunk piece per net; no such layout exists beside a ring; and the fill is filled or stuck.
-use Prim.Native.Nat.{ℕ, _≤_, _<_}
+use Prim.Native.Nat.{ℕ, _≤_}
 use native.Mathlib.Omega.{arith}
-use native.Mathlib.Decide.{decLt}
 use mathlib.Core.Path.{_≡_, refl, sym, subst}
 use mathlib.Core.List.{List, [], _∷_, Memᴰ·of-map}
 use mathlib.Core.Logic.{⊎-elim}
@@ -18,19 +17,17 @@ use Rattle.channel.specs.CountLaws.{nets-few}
 use Rattle.channel.specs.SpanLaws.{nets→, spanning→}
 use Rattle.channel.specs.ParkedLaws.{parked-no-net, uncounted}
 use Rattle.channel.specs.ShownLaws.{tangled-shown}
-use Rattle.channel.specs.PathLaws.{path-start-spans}
-use Rattle.channel.specs.ChainLaws.{chain-promise}
 use Rattle.wiring.specs.Layouts.{Good, OneTrunkEach}
 use Rattle.wiring.specs.Order.{no-ring}
 use Rattle.wiring.specs.Floor.{density-floor}
+use Rattle.wiring.specs.ChainFloor.{chain-floor}
 use Rattle.leftedge.specs.declared.NetRecord.{NetRecord}
 use Rattle.leftedge.specs.Items.{Place}
 use Rattle.leftedge.specs.Fill.{filled, stuck}
 use Rattle.leftedge.specs.FillEnds.{filled-or-stuck}
 use Rattle.leftedge.specs.Walk.{ringOf, ringNumbers}
 use Rattle.leftedge.specs.Nets.{netItems, fill, recordOf, records}
-use Rattle.leftedge.specs.NetLaws.{spanning→order}
-use Rattle.leftedge.specs.NetFill.{nets-filled, stuck-ring, ring-length, path≤track, tracks≤nets, tracks≤density}
+use Rattle.leftedge.specs.NetFill.{nets-filled, stuck-ring, ring-length, tracks≤nets, tracks≤density}
 use Rattle.boardfile.specs.Encode.{encode}
 use Rattle.boardfile.specs.Promise.{ReadsBack}
 use Rattle.boardfile.specs.RoundTrip.{read-back, encoded-length}
@@ -62,23 +59,13 @@ module _ (ch : Channel) (esc : Escapes ch) where
       otherwise-refused (λ t ps e. let l = laid-out t ps e in no-ring ch esc (draw ch t ps) (l .0) (l .1) (r .0) (r .1))
 
   module _ (t : ℕ) (ps : List Place) (e : fill ch ≡ filled t ps) where
-    untangled : Tangled ch → ⊥
-    untangled r = let l = laid-out t ps e in no-ring ch esc (draw ch t ps) (l .0) (l .1) (r .0) (r .1)
-
     density≤tracks : density ch ≤ t
     unfolding draw
     density≤tracks = density-floor ch esc (draw ch t ps) (laid-out t ps e .0)
 
     chain≤tracks : chain ch ≤ t
-    chain≤tracks = elim (decLt 0 (chain ch)) [ yes h ↦ reached h | no h ↦ omega arith ]
-      where
-        reached : 0 < chain ch → chain ch ≤ t
-        reached h =
-            let p = chain-promise ch esc .reached untangled h in
-            let f = nets-filled ch esc t ps e in
-            let k = path≤track ch esc t ps f (p .2) in
-            let b = f .tracked (p .0) (spanning→order ch (esc .even) (p .0) (path-start-spans esc (p .2))) .1 in
-            omega arith
+    unfolding draw
+    chain≤tracks = let l = laid-out t ps e in chain-floor ch esc (draw ch t ps) (l .0) (l .1)
 
     reads-back : ReadsBack (width ch) (draw ch t ps) (encode (width ch) (draw ch t ps))
     unfolding draw

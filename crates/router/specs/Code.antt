@@ -23,7 +23,7 @@ use Rattle.router.specs.Route.{
   ringAfter,
   looksAnswered,
 }
-use Rattle.router.specs.Contract.{RoutePromise, ParkedBare, LooksPromise}
+use Rattle.router.specs.Contract.{RoutePromise, TurnedOver, ParkedBare, LooksPromise}
 use Rattle.router.specs.Tables.{noRecords}
 
 -- the records answered by value: none under a refusal
@@ -37,7 +37,7 @@ module _ (ch : Channel) (table : List NetRecord) (ring board : List ℕ) where
 
   -- What `route` answers, and what the caller's table and buffers then hold. Rules out: rows answered for, with the
   -- board untouched (boardHeld); a record with first and last exchanged, or a table written under a refusal
-  -- (tableHeld); and with the promises the wrong programs of RoutePromise, ParkedBare and LooksPromise.
+  -- (tableHeld); and with the promises the wrong programs of RoutePromise, TurnedOver, ParkedBare and LooksPromise.
   pub record RouteDone (r : Routed) (table′ : List NetRecord) (ring′ board′ : List ℕ) : Type 0 where
     pub answer : r .answer ≡ routeAnswer trays ch
     pub counted : r .count ≡ length (recordsUnless (routeRefusal trays ch) (recordsMade ch (fill ch)))
@@ -48,7 +48,10 @@ module _ (ch : Channel) (table : List NetRecord) (ring board : List ℕ) where
     -- demand 3 whole, for every channel that escapes refusals 1 to 5
     pub promise : recordTray ≤ length table → ringTray ≤ length ring → boardTray ≤ length board → Escapes ch
         → RoutePromise ch (r .answer) ring′ board′
-    -- and Req 04 of 02
+    -- and Req 02 of 02
+    pub turned : recordTray ≤ length table → ringTray ≤ length ring → boardTray ≤ length board → Escapes ch
+        → TurnedOver ch (r .answer) board′
+    -- and Req 04
     pub parked : recordTray ≤ length table → ringTray ≤ length ring → boardTray ≤ length board → Escapes ch
         → ParkedBare ch (r .answer) (take (r .count) table′) board′
     -- and Req 07
@@ -72,7 +75,9 @@ module _ (ch : Channel) (ring board : List ℕ) where
     -- demand 3 whole, for every channel that escapes refusals 1 to 5
     pub promise : ringTray ≤ length ring → boardTray ≤ length board → Escapes ch
         → RoutePromise ch (r .answer) ring′ board′
-    -- and Req 04 of 02
+    -- and Req 02 of 02
+    pub turned : ringTray ≤ length ring → boardTray ≤ length board → Escapes ch → TurnedOver ch (r .answer) board′
+    -- and Req 04
     pub parked : ringTray ≤ length ring → boardTray ≤ length board → Escapes ch
         → ParkedBare ch (r .answer) (take (r .count) (r .records)) board′
     -- and Req 07

@@ -1,5 +1,5 @@
--- What the router promises of what the caller then holds: the equations of Route, demand 3 whole, and Reqs 04 and 07
--- of 02.
+-- What the router promises of what the caller then holds: the equations of Route, demand 3 whole, and Reqs 02, 04 and
+-- 07 of 02.
 use Prim.Native.Nat.{ℕ, _+_, _*_, _≤_}
 use mathlib.Core.Path.{_≡_}
 use mathlib.Core.List.{List}
@@ -7,9 +7,12 @@ use mathlib.Core.Logic.{_↔_}
 use mathlib.Core.Option.{none}
 use lib.ListN.{length, take}
 use Rattle.refusal.specs.declared.Refusal.the-variants as refusal
+use Rattle.grid.specs.Pieces.{Layout}
+use Rattle.grid.specs.Flipped.{flipped}
 use Rattle.channel.specs.Channel.{Channel, width, withoutParked, nets, spanning}
 use Rattle.channel.specs.Density.{density}
 use Rattle.channel.specs.Constraints.{chain, Step, Ring, Tangled, Unconstrained}
+use Rattle.channel.specs.Turned.{turned}
 use Rattle.wiring.specs.Layouts.{Good, OneTrunkEach}
 use Rattle.leftedge.specs.Walk.{ringNumbers}
 use Rattle.leftedge.specs.Looks.{ceiling}
@@ -18,6 +21,7 @@ use Rattle.boardfile.specs.Open.{openRefusal, fileWidth, fileTracks, fileCount,
 use Rattle.leftedge.specs.declared.NetRecord.{NetRecord}
 use Rattle.channel.specs.Parked.{ParkedBeside}
 use Rattle.promises.specs.Router.{NoLayout, Fewest, Bare, NoneParked}
+use Rattle.promises.specs.Bounds.{OneTrunkFloor, largerBound}
 use Rattle.router.specs.declared.RouteAnswer.{RouteAnswer}
 use Rattle.router.specs.declared.RouteAnswer.the-variants.{Routed, Refused}
 use Rattle.router.specs.Route.{layoutDrawn, routeTold}
@@ -59,6 +63,22 @@ pub record RoutePromise (ch : Channel) (r : RouteAnswer) (ring board : List ℕ)
   pub fewest : Unconstrained ch → (t n : ℕ) → r ≡ Routed t n → (t ≡ density ch) × Fewest ch t
   -- 01, "Filling tracks": "Density and chain are each at most t, and t is at most the number of nets"
   pub floors : (t n : ℕ) → r ≡ Routed t n → (density ch ≤ t) × (chain ch ≤ t) × (t ≤ length (nets ch))
+  -- 02, Req 02: "every good layout with at most one trunk piece per net has at least chain tracks, so the larger bound
+  -- is a floor for such layouts". The board is one; where it has no more tracks than that, no such layout has fewer
+  pub one-trunk-floor : (t n : ℕ) → r ≡ Routed t n → (largerBound ch ≤ t) × OneTrunkFloor ch (largerBound ch)
+
+-- the layout of the board file of n pieces at the front of the board, turned over
+abbrev pub turnedBoard : ℕ → List ℕ → Layout
+turnedBoard n board = flipped (fileLayout (take (4 + 4 * n) board))
+
+-- Req 02 of 02, of the answer r and of the board that the caller then holds. Rules out: a list that is refused one way
+-- up and routed the other (tangled-exactly); copper that is good only the right way up (good).
+pub record TurnedOver (ch : Channel) (r : RouteAnswer) (board : List ℕ) : Type 0 where
+  -- "a turned channel is tangled exactly when the first is"
+  pub tangled-exactly : (routeTold r .number ≡ 7) ↔ Tangled (turned ch)
+  -- the same copper turned over is a good layout of the turned list, with at most one trunk piece per net
+  pub good : (t n : ℕ) → r ≡ Routed t n → Good (turned ch) (turnedBoard n board)
+  pub oneTrunkEach : (t n : ℕ) → r ≡ Routed t n → OneTrunkEach (turned ch) (turnedBoard n board)
 
 -- Req 04 of 02, of the answer r and of the records made and the board that the caller then holds. Rules out: a parked
 -- net that gets a record (no-record); one that still blocks a column, for which a channel is called tangled

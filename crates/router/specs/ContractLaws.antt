@@ -1,5 +1,5 @@
 -- The equations of Route give the promises: the chain of refusals is silent up to 7 for a channel that escapes, and
--- then they are demand 3 and Reqs 04 and 07 of 02.
+-- then they are demand 3 and Reqs 02, 04 and 07 of 02.
 use Prim.Native.Nat.{ℕ, _+_, _*_}
 use native.Mathlib.Omega.{arith}
 use mathlib.Core.Path.{_≡_, sym, _∙_, ap, subst, subst⁻¹}
@@ -19,6 +19,7 @@ use Rattle.channel.specs.Channel.{Channel, width}
 use Rattle.channel.specs.Constraints.{Tangled}
 use Rattle.channel.specs.Answers.{Escapes, rowsRefusal}
 use Rattle.channel.specs.EscapeLaws.{accepted-exactly}
+use Rattle.channel.specs.TurnLaws.{turned-promise}
 use Rattle.wiring.specs.Layouts.{Good, OneTrunkEach}
 use Rattle.leftedge.specs.Items.{Place}
 use Rattle.leftedge.specs.declared.NetRecord.{NetRecord}
@@ -35,12 +36,13 @@ use Rattle.boardfile.specs.RoundTrip.{encoded-length}
 use Rattle.drawing.specs.Draw.{draw}
 use Rattle.promises.specs.Router.{Refused, RouterPromise, Bare, NoneParked}
 use Rattle.promises.specs.Proved.{demand3, req04}
+use Rattle.promises.specs.TurnProved.{floor-promise, copper-promise}
 use Rattle.router.specs.declared.RouteAnswer.{RouteAnswer}
 use Rattle.router.specs.declared.RouteAnswer.the-variants as route
 use Rattle.router.specs.Route.{ringShown, tangled, layoutDrawn, recordsMade, routeRefusal, routeAnswer}
 use Rattle.router.specs.Route.{boardAfter}
 use Rattle.router.specs.Route.{filledUnder7, ringAfter, looksUnless, looksAnswered, routeTold}
-use Rattle.router.specs.Contract.{ShowsRing, HoldsLayout, RoutePromise, ParkedBare, LooksPromise}
+use Rattle.router.specs.Contract.{ShowsRing, HoldsLayout, RoutePromise, TurnedOver, ParkedBare, LooksPromise}
 use Rattle.router.specs.Code.{recordsUnless}
 
 module _ (trays : List Tray) (ch : Channel) (room : shortTray trays ≡ none) (esc : Escapes ch) where
@@ -197,6 +199,23 @@ module _ (trays : List Tray) (ch : Channel) (room : shortTray trays ≡ none) (e
             promise .fewest free t (r .0) (r .1);
         floors = λ t n h. let r = routed-filled t n h in
             promise .floors t (r .0) (r .1);
+        one-trunk-floor = λ t n h. let r = routed-filled t n h in
+            let f = promise .floors t (r .0) (r .1) in (omega arith, floor-promise ch esc .larger-floor);
+      }
+
+  pub route-turned : (board : List ℕ) → TurnedOver ch (routeAnswer trays ch) (boardAfter trays ch board)
+  route-turned board =
+      let alike = turned-promise ch .tangled-exactly esc in
+      let copper = copper-promise ch esc in
+      record {
+        tangled-exactly = (
+          λ h. alike .1 (promise .ring-exactly .0 (seven-exactly .0 h)),
+          λ h. seven-exactly .1 (promise .ring-exactly .1 (alike .0 h)),
+        );
+        good = λ t n h. let l = holds-layout board t n h .good in
+            copper .same-copper _ (l .onGrid) .0 l;
+        oneTrunkEach = λ t n h. let l = holds-layout board t n h in
+            copper .same-trunks _ (l .good .onGrid) .0 (l .oneTrunkEach);
       }
 
   -- the records answered have no parked number: none is made under a refusal, and those made are of nets

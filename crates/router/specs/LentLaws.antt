@@ -36,8 +36,8 @@ use Rattle.router.specs.Route.{
   ringAfter,
   looksAnswered,
 }
-use Rattle.router.specs.Contract.{RoutePromise, ParkedBare, LooksPromise}
-use Rattle.router.specs.ContractLaws.{route-promise, route-parked, route-looks}
+use Rattle.router.specs.Contract.{RoutePromise, TurnedOver, ParkedBare, LooksPromise}
+use Rattle.router.specs.ContractLaws.{route-promise, route-turned, route-parked, route-looks}
 use Rattle.router.specs.Tables.{nobody, noRecords}
 use Rattle.router.specs.Code.{recordsUnless, RouteDone, RowsDone}
 use Rattle.router.specs.CodeLaws.{HeldBy, Held, room}
@@ -193,12 +193,20 @@ lent-done {ch} {table} {table′} {ring} {board} {ring′} {board′} {r} {q} e 
       ringHeld = e .ringHeld;
       boardHeld = e .boardHeld;
       promise = promise;
+      turned = turned;
       parked = parked;
       looked = looked;
     }
   where
     trays : List Tray
     trays = routeTraysWithRecords (length table) (length ring) (length board)
+
+    turned : recordTray ≤ length table → ringTray ≤ length ring → boardTray ≤ length board → Escapes ch
+        → TurnedOver ch (q .answer) board′
+    turned ht hr hb esc =
+        let same = same-trays ch (length table) (length ring) (length board) ht in
+        let fits = same ∙ room (length ring) (length board) hr hb in
+        rw (a .0, e .answer, e .boardHeld) (route-turned trays ch fits esc board)
 
     parked : recordTray ≤ length table → ringTray ≤ length ring → boardTray ≤ length board → Escapes ch
         → ParkedBare ch (q .answer) (take (q .count) table′) board′
@@ -239,6 +247,7 @@ rows-done {ch} {table} {table′} {ring} {board} {ring′} {board′} {q} {r} bl
       ringHeld = d .ringHeld ∙ same-ring ch size ring board fits;
       boardHeld = d .boardHeld ∙ same-board ch size ring board fits;
       promise = λ hr hb esc. rw (a .0) (d .promise fits hr hb esc);
+      turned = λ hr hb esc. rw (a .0) (d .turned fits hr hb esc);
       parked = λ hr hb esc. rw (a .0, a .1, a .2) (d .parked fits hr hb esc);
       looked = λ hr hb esc. rw (a .3) (d .looked fits hr hb esc);
     }

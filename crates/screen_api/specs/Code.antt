@@ -13,6 +13,8 @@ use Rattle.channel.specs.Channel.{Channel, withoutParked, nets, spanning}
 use Rattle.channel.specs.Density.{density}
 use Rattle.channel.specs.Constraints.{chain, Tangled, Unconstrained}
 use Rattle.channel.specs.Answers.{Escapes, boundsAnswer, boundsTold}
+use Rattle.channel.specs.Turned.{turned}
+use Rattle.wiring.specs.Layouts.{Good, OneTrunkEach}
 use Rattle.leftedge.specs.Looks.{ceiling}
 use Rattle.pinlist.specs.Answers.{readAnswer, readTold, topAfter, botAfter}
 use Rattle.boardfile.specs.Open.{fileLayout}
@@ -21,9 +23,10 @@ use Rattle.judge.specs.Promise.{ShortPin, OpenPin, FloatingPiece, Passable}
 use Rattle.blanks.specs.Stock.{blankAnswer, blankTold}
 use Rattle.channel.specs.Parked.{ParkedBeside}
 use Rattle.promises.specs.Router.{NoLayout, Fewest, Bare}
+use Rattle.promises.specs.Bounds.{OneTrunkFloor, largerBound}
 use Rattle.router.specs.Route.{routeTrays, routeAnswer, routeTold, boardAfter, ringAfter}
 use Rattle.router.specs.Progress.{looksAnswer, ceilingAnswer, looksTold}
-use Rattle.router.specs.Contract.{ShowsRing, HoldsLayout, LooksPromise}
+use Rattle.router.specs.Contract.{ShowsRing, HoldsLayout, turnedBoard, LooksPromise}
 use Rattle.screen_api.specs.Numbers.{entryNumber, refusalIn, placeIn, tracksIn, piecesIn, Decoded}
 
 -- Rules out: a width answered for a refusal (answer); rows changed under a refusal (topHeld, botHeld)
@@ -41,7 +44,7 @@ pub record BoundsEntry (ch : Channel) (r : ℕ) : Type 0 where
   pub densityRead : refusalIn r ≡ 0 → placeIn r / 65536 ≡ density ch
   pub chainRead : refusalIn r ≡ 0 → placeIn r % 65536 ≡ chain ch
 
--- Demand 3, and Req 04 of 02, of the number r and of the ring and board that the caller then holds
+-- Demand 3, and Reqs 02 and 04 of 02, of the number r and of the ring and board that the caller then holds
 pub record RouteNumberPromise (ch : Channel) (r : ℕ) (ring board : List ℕ) : Type 0 where
   pub tangled-exactly : (refusalIn r ≡ 7) ↔ NoLayout ch
   pub ring-exactly : (refusalIn r ≡ 7) ↔ Tangled ch
@@ -50,6 +53,10 @@ pub record RouteNumberPromise (ch : Channel) (r : ℕ) (ring board : List ℕ) :
   pub laid-out : refusalIn r ≡ 0 → HoldsLayout ch (tracksIn r) (piecesIn r) (take (4 + 4 * piecesIn r) board)
   pub fewest : Unconstrained ch → refusalIn r ≡ 0 → (tracksIn r ≡ density ch) × Fewest ch (tracksIn r)
   pub floors : refusalIn r ≡ 0 → (density ch ≤ tracksIn r) × (chain ch ≤ tracksIn r) × (tracksIn r ≤ length (nets ch))
+  pub one-trunk-floor : refusalIn r ≡ 0 → (largerBound ch ≤ tracksIn r) × OneTrunkFloor ch (largerBound ch)
+  pub turned-tangled : (refusalIn r ≡ 7) ↔ Tangled (turned ch)
+  pub turned-good : refusalIn r ≡ 0 → Good (turned ch) (turnedBoard (piecesIn r) board)
+  pub turned-one-trunk : refusalIn r ≡ 0 → OneTrunkEach (turned ch) (turnedBoard (piecesIn r) board)
   pub no-copper : refusalIn r ≡ 0 → Bare ch (fileLayout (take (4 + 4 * piecesIn r) board))
   pub stays-tangled : (refusalIn r ≡ 7) ↔ Tangled (withoutParked ch)
   pub uncounted : ParkedBeside ch → refusalIn r ≡ 0 → (tracksIn r ≡ density ch) × Fewest ch (tracksIn r)

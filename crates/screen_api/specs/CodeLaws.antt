@@ -49,7 +49,7 @@ use Rattle.router.specs.declared.RouteAnswer.{RouteAnswer}
 use Rattle.router.specs.declared.RouteAnswer.the-variants as routing
 use Rattle.router.specs.declared.progress.LooksAnswer.the-variants as progress
 use Rattle.router.specs.Route.{routeTrays, routeTold}
-use Rattle.router.specs.Contract.{ShowsRing, RoutePromise, ParkedBare, LooksPromise}
+use Rattle.router.specs.Contract.{ShowsRing, RoutePromise, TurnedOver, ParkedBare, LooksPromise}
 use Rattle.router.specs.ContractLaws.{stuck-answer}
 use Rattle.router.specs.CodeLaws.{room}
 use Rattle.router.specs.Code.{RowsDone}
@@ -147,6 +147,9 @@ module _ {ch : Channel} {ring board ring′ board′ : List ℕ} {a : Routing}
       said : RoutePromise ch (a .answer) ring′ board′
       said = done .promise hr hb esc
 
+      over : TurnedOver ch (a .answer) board′
+      over = done .turned hr hb esc
+
       parked : ParkedBare ch (a .answer) (take (a .count) (a .records)) board′
       parked = done .parked hr hb esc
 
@@ -181,6 +184,10 @@ module _ {ch : Channel} {ring board ring′ board′ : List ℕ} {a : Routing}
             laid-out = λ h. said .laid-out (tracksIn r) (piecesIn r) (back h);
             fewest = λ free h. said .fewest free (tracksIn r) (piecesIn r) (back h);
             floors = λ h. said .floors (tracksIn r) (piecesIn r) (back h);
+            one-trunk-floor = λ h. said .one-trunk-floor (tracksIn r) (piecesIn r) (back h);
+            turned-tangled = number-exactly (decoded e) (over .tangled-exactly);
+            turned-good = λ h. over .good (tracksIn r) (piecesIn r) (back h);
+            turned-one-trunk = λ h. over .oneTrunkEach (tracksIn r) (piecesIn r) (back h);
             no-copper = λ h. parked .no-copper (tracksIn r) (piecesIn r) (back h);
             stays-tangled = number-exactly (decoded e) (parked .tangled-exactly);
             uncounted = λ beside h. parked .fewest beside (tracksIn r) (piecesIn r) (back h);

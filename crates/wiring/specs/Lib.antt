@@ -6,3 +6,5 @@ pub mod Columns
 pub mod Crossing
 pub mod Order
 pub mod Floor
+pub mod ChainFloor
+pub mod TurnLaws

@@ -92,7 +92,7 @@ module _ (ch : Channel) (esc : Escapes ch) (l : Layout) (g : Good ch l) where
     pub owned : TrunkOf ch l n place
     pub onTrack : low (owned .piece) ≡ k
 
-  leaves→track : (x : Pin) (n : ℕ) → 0 < n → netOf ch x ≡ n → (q : Leaves ch l x) → HasTrack n (low (q .trunk))
+  pub leaves→track : (x : Pin) (n : ℕ) → 0 < n → netOf ch x ≡ n → (q : Leaves ch l x) → HasTrack n (low (q .trunk))
   unfolding Present
   leaves→track x n pos here q =
       let isX : IsPin ch x = subst (λ (k : ℕ). 0 < k) (sym here) pos in
