@@ -14,7 +14,8 @@
  * more, then a line feed, or a carriage return and a line feed. A number is 0 or has no leading zero; nothing follows.
  *
  * Rows hold one net number a column, 0 for no pin. Pin positions, where a place is one, are 1 to w for TOP and w + 1 to
- * 2w for BOT.
+ * 2w for BOT. The list of the board turned over is had by exchanging the two rows: it is tangled exactly if the first
+ * is, with the same density and chain.
  *
  * A pin whose net number stands nowhere else in the two rows is parked: cabjirt_route leaves it bare, and it counts
  * neither in density nor in chain. No entry tells which pins are parked: a caller who wants to know counts the numbers.

@@ -143,6 +143,32 @@ enum outcome order_load(struct order *order, const char *path)
     return OUTCOME_DONE;
 }
 
+/* A list has a board exactly if it has one turned over, so that there are tracks before to be told of. */
+static void say_turned(struct order *order, uint32_t before)
+{
+    uint32_t tracks = order->answer.tracks;
+    const char *plural = tracks == 1 ? "" : "s";
+    if (order->answer.verdict.refused)
+        say(order, "turned over");
+    else if (tracks == before)
+        say(order, "turned over: %u track%s, as before", tracks, plural);
+    else
+        say(order, "turned over: %u track%s, %u before", tracks, plural, before);
+}
+
+enum outcome order_turn(struct order *order)
+{
+    uint32_t before = order->answer.tracks;
+    if (pin_text_empty(&order->pins)) {
+        say(order, "there is nothing to turn over");
+        return OUTCOME_REFUSED;
+    }
+    pin_text_turn(&order->pins);
+    order_changed(order);
+    say_turned(order, before);
+    return OUTCOME_DONE;
+}
+
 /* Says that a command finds the list refused. */
 static enum outcome refused_first(struct order *order, const char *so)
 {

@@ -1,4 +1,5 @@
-/* commands.h: an order as it stands, and what loading, saving and judging do to it; the same for keys and for words. */
+/* commands.h: an order as it stands, and what loading, turning over, saving and judging do to it; the same for keys and
+ * for words. */
 #ifndef CABJIRT_COMMANDS_H
 #define CABJIRT_COMMANDS_H
 
@@ -57,6 +58,10 @@ void order_looks(const struct order *order, size_t across, struct looks_bar *bar
 
 /* Takes a pin list from a file. A file that two typed rows cannot show is refused and changes nothing. */
 enum outcome order_load(struct order *order, const char *path);
+
+/* Turns the list over, refused or not: its rows are exchanged. Tells its tracks, and those before, if it has a board.
+ * REFUSED where both rows are empty. */
+enum outcome order_turn(struct order *order);
 
 /* Writes the board file of the list, or the list itself, refused or not; EXISTS where a file is there that is not to be
  * replaced. */

@@ -56,6 +56,17 @@ void edit_step(struct screen *screen, bool back)
     screen->answer_is_due = screen->follows_cursor = true;
 }
 
+void edit_turn(struct screen *screen)
+{
+    enum outcome outcome = order_turn(screen->order);
+    screen_told(screen, outcome);
+    if (outcome != OUTCOME_DONE)
+        return;
+    history_note(&screen->history, &screen->before, &screen->order->pins);
+    screen->editor.row = 1 - screen->editor.row;
+    screen->answer_is_due = screen->follows_cursor = true;
+}
+
 void edit_show_list(struct screen *screen)
 {
     screen_hush(screen);

@@ -16,6 +16,9 @@ void edit_paste(struct screen *screen);
 /* Undoes, or does again. */
 void edit_step(struct screen *screen, bool back);
 
+/* Turns the list over; `before` has the rows as they were. The cursor goes with its row. */
+void edit_turn(struct screen *screen);
+
 /* From a judged board back to the list's own. */
 void edit_show_list(struct screen *screen);
 

@@ -10,6 +10,7 @@ enum { LINE_MOST = ROW_LABEL + ROW_LIMIT + 1 }; /* with a carriage return at the
 static const char help[] =
     "TOP n n ..         sets the TOP row, one number a column, 0 for no pin\n"
     "BOT n n ..         sets the BOT row\n"
+    "turn               exchanges TOP and BOT, and tells the tracks now and before\n"
     "show               answers the list: its board, or why it is refused\n"
     "load FILE          takes a pin list from a file\n"
     "save FILE          writes the board file; a file that exists is kept\n"
@@ -63,7 +64,7 @@ static bool complain(unsigned long number, const char *what, const char *about)
     return false;
 }
 
-/* What came of a command on a file: its message on standard output, or where it failed on standard error. */
+/* What came of a command: its message on standard output, or where it failed on standard error. */
 static bool told(const struct order *order, unsigned long number, bool done)
 {
     if (!done) {
@@ -165,6 +166,8 @@ static bool command(struct order *order, struct line *line, unsigned long number
         order_changed(order); /* a board judged before gives way to the list's own */
         return print_order(order);
     }
+    if (strcmp(line->text, "turn") == 0)
+        return told(order, number, order_turn(order) == OUTCOME_DONE);
     if (strcmp(line->text, "help") == 0)
         return fputs(help, stdout) >= 0;
     for (size_t i = 0; i < sizeof file_commands / sizeof *file_commands; i++)

@@ -132,6 +132,13 @@ bool pin_text_take(struct pin_text *pins, const uint8_t *text, size_t length)
     return true;
 }
 
+void pin_text_turn(struct pin_text *pins)
+{
+    struct row_text top = pins->rows[TOP_ROW];
+    pins->rows[TOP_ROW] = pins->rows[BOT_ROW];
+    pins->rows[BOT_ROW] = top;
+}
+
 static bool row_same(const struct row_text *one, const struct row_text *other)
 {
     return one->length == other->length && memcmp(one->bytes, other->bytes, one->length) == 0 &&

@@ -78,6 +78,9 @@ size_t pin_text_compose(const struct pin_text *pins, uint8_t text[TEXT_MOST]);
 /* Takes both rows from a text of two labelled lines. Any other text is not taken, and no such text is a pin list. */
 bool pin_text_take(struct pin_text *pins, const uint8_t *text, size_t length);
 
+/* Exchanges the rows, each with its pads and its line's end. Done twice, it gives the same list again. */
+void pin_text_turn(struct pin_text *pins);
+
 bool pin_text_same(const struct pin_text *one, const struct pin_text *other);
 bool pin_text_empty(const struct pin_text *pins);
 

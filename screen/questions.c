@@ -6,18 +6,11 @@
 #include "keys.h"
 #include "screen_view.h"
 
-static void told(struct screen *screen, enum outcome outcome)
-{
-    screen->message_is_bad = outcome != OUTCOME_DONE;
-    if (screen->message_is_bad)
-        beep();
-}
-
 static void load(struct screen *screen)
 {
     screen->before = screen->order->pins;
     enum outcome outcome = order_load(screen->order, screen->prompt.text);
-    told(screen, outcome);
+    screen_told(screen, outcome);
     if (outcome != OUTCOME_DONE)
         return;
     history_note(&screen->history, &screen->before, &screen->order->pins);
@@ -30,7 +23,7 @@ static void judge(struct screen *screen)
 {
     struct order *order = screen->order;
     enum outcome outcome = order_judge(order, screen->prompt.text);
-    told(screen, outcome);
+    screen_told(screen, outcome);
     if (outcome != OUTCOME_DONE)
         return;
     snprintf(order->message, sizeof order->message, "this is the file's board; Esc goes back to the list's own");
@@ -45,7 +38,7 @@ static void save(struct screen *screen, enum prompt_kind what, bool replace)
     if (outcome == OUTCOME_EXISTS)
         prompt_open(&screen->prompt, board ? PROMPT_REPLACE_BOARD : PROMPT_REPLACE_PINS);
     else
-        told(screen, outcome);
+        screen_told(screen, outcome);
 }
 
 void question_choice_key(struct screen *screen, int key)

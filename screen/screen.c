@@ -15,3 +15,10 @@ void screen_refuse(struct screen *screen, const char *why)
     snprintf(screen->order->message, sizeof screen->order->message, "%s", why);
     screen->message_is_bad = true;
 }
+
+void screen_told(struct screen *screen, enum outcome outcome)
+{
+    screen->message_is_bad = outcome != OUTCOME_DONE;
+    if (screen->message_is_bad)
+        beep();
+}

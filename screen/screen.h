@@ -31,4 +31,7 @@ struct screen {
 void screen_hush(struct screen *screen);
 void screen_refuse(struct screen *screen, const char *why);
 
+/* Shows the message that a command left; beeps where it was not done. */
+void screen_told(struct screen *screen, enum outcome outcome);
+
 #endif

@@ -19,6 +19,7 @@ import cases_looks  # noqa: E402
 import cases_padded  # noqa: E402
 import cases_parked  # noqa: E402
 import cases_pipe  # noqa: E402
+import cases_turned  # noqa: E402
 import cases_typing  # noqa: E402
 import cases_window  # noqa: E402
 import pseudo_terminal  # noqa: E402
@@ -27,7 +28,7 @@ import pseudo_terminal  # noqa: E402
 def main():
     try:
         for cases in (cases_build, cases_typing, cases_files, cases_window, cases_pipe, cases_parked, cases_padded,
-                      cases_line_ends, cases_looks):
+                      cases_line_ends, cases_looks, cases_turned):
             with tempfile.TemporaryDirectory() as name:
                 cases.run(Path(name))
     except (pseudo_terminal.Failure, subprocess.TimeoutExpired) as failure:

@@ -5,6 +5,7 @@ static const char *const help[] = {
     "Tab Enter Up Dn the other row, same column",
     "Left Right Home End Backspace Delete   in the row;  ^U clears it",
     "F5 or ^_ undo   F6 or ^Y redo",
+    "F8 or ^T        turn the list over: exchange TOP and BOT",
     "F2 or ^O        load a pin list from a file",
     "F3 or ^S        save the board file",
     "F7 or ^W        save the pin list",

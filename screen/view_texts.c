@@ -10,6 +10,7 @@ void view_keys(void)
 {
     static const char *const keys[] = {
         "F1 help", "^Q quit", "^O load", "^S save board", "^W save list", "^G judge", "F5 undo", "F6 redo",
+        "F8 turn over",
     };
     int y = paint_rows() - 1, x = 1;
     paint_bar(y, STYLE_BAR);
