@@ -2,10 +2,11 @@
 import signal
 import sys
 
-from command import board, judge, listing, make, order, picture, places, standard, told
+from command import board, judge, listing, make, order, picture, places, standard, told, turn
 from command.failure import Failure
 
-COMMANDS = {"make": make, "list": listing, "board": board, "judge": judge, "picture": picture, "order": order}
+COMMANDS = {"make": make, "list": listing, "board": board, "turn": turn, "judge": judge, "picture": picture,
+            "order": order}
 HELP = """\
 channel: a pin list in; listing, board file, judgement and picture out
 
@@ -21,8 +22,8 @@ A pin list is two lines, TOP and BOT, each with one net number a column, 0 for n
 
 A number that stands just once parks its pin, which gets no copper; standard error then says so.
 
-Exit status: 0 for a listing, a board or a good one; 1 for a refusal or fault, which standard error explains; 2 for
-wrong use or a step that failed.
+Exit status: 0 for a listing, a board, a turned list or a good board; 1 for a refusal or fault, which standard error
+explains; 2 for wrong use or a step that failed.
 """
 
 

@@ -4,9 +4,9 @@ Prints the listing of a pin list and puts its board file at BOARD, whole, and on
 bytes. Under a refusal, and where any step fails, BOARD stays as it was. PINS may be - for standard input. BOARD may be
 - for standard output; the listing then goes to standard error. A file at BOARD is replaced, through a symbolic link
 too; a pipe or a character device is written into; a folder, and the pin list itself, are refused. Standard error says
-which pins are parked, if any are.
+how many tracks are saved if the board is turned over, and which pins are parked, where there is that to say.
 """
-from command import answers, inputs, programs, told
+from command import answers, inputs, programs, told, turning
 from command.output import Place
 from command.standard import ERROR, write_all, write_output
 
@@ -22,6 +22,7 @@ def run(pins_name, board_name):
     if isinstance(answer, answers.Verdict):
         write_output(output)
         return told.status(answer, pins, pins_name=pins_name)
+    over = turning.listed(turning.turned(pins), answer)
     board, verdict = programs.judged_board(pins)
     programs.refuse_disagreement(answer, board, verdict)
     try:
@@ -30,6 +31,7 @@ def run(pins_name, board_name):
         place.put(board)
     finally:
         place.discard()
+    told.tell_of_list(turning.saving_words(answer, over), pins_name)
     return told.status(answer, pins, pins_name=pins_name)
 
 

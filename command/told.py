@@ -22,6 +22,10 @@ def status(answer, pins, board=b"", pins_name="", board_name="the board file"):
 
 
 def tell_parked(pins, pins_name):
-    words = parked_words(rows_of(pins))
+    tell_of_list(parked_words(rows_of(pins)), pins_name)
+
+
+def tell_of_list(words, pins_name):
+    """Says words of a pin list under its name, if there are any."""
     if words:
         say(f"{inputs.called(pins_name)}: {words}")

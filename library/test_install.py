@@ -15,6 +15,7 @@ from pathlib import Path
 sys.dont_write_bytecode = True
 ROOT = Path(__file__).resolve().parent.parent
 A = b"TOP 0 1 2 3\nBOT 1 2 0 3\n"
+A_TURNED = b"TOP 1 2 0 3\nBOT 0 1 2 3\n"
 PADDED = b"TOP   0   1   2   3\r\nBOT   1   2   0   3\r\n"
 L = b"TOP 1 0\nBOT 0 0\n"
 L_LISTED = b"BOARD 2 0 8\nBOUND 0 0\nEND 0\n"
@@ -66,6 +67,7 @@ class Installed(unittest.TestCase):
         self.assertEqual((done.returncode, done.stderr), (0, b""))
         self.assertEqual(run(command, "judge", pins, self.room / "board", env=no_kit).stdout, b"GOOD 2\n")
         self.assertIn(b"<svg", run(command, "picture", pins, env=no_kit).stdout)
+        self.assertEqual(run(command, "turn", pins, env=no_kit).stdout, A_TURNED)
         self.assertEqual(run(command, "--version").stdout, (ROOT / "VERSION").read_bytes())
         self.assertFalse(list(self.prefix.rglob("__pycache__")) + list(self.prefix.rglob("target")))
         self.assertFalse(list(self.prefix.rglob("test*")))

@@ -61,6 +61,11 @@ def check(top, bot):
             raise Refused(5, position)
 
 
+def turned(top, bot):
+    """The rows of the board turned over (Req 02): TOP and BOT exchanged."""
+    return bot, top
+
+
 # --- spans and constraints ------------------------------------------------------------------------------------------
 
 def columns_of(top, bot):

@@ -5,7 +5,8 @@ Usage: python3 reference/exhaustive.py [SEED]
 The router is asked for every channel of up to 3 columns with nets 1 to 3, for every channel of 4 columns but for the
 names of its nets, and for some of 5; parked pins are among them all. It has to refuse as tangled just those of which
 layout_search.py finds no layout, and to answer a channel as the same without its parked pins. Of the same channels the
-looks and their ceiling are asked.
+looks and their ceiling are asked, and density and chain both ways up; no layout with one trunk a net has fewer tracks
+than these.
 """
 import random
 import re
@@ -21,6 +22,7 @@ import looks_checks
 import parked_checks
 import random_boards
 import random_channels
+import turned_checks
 from layout_search import TRUNK, Search, fewest
 from piece_sets import every_piece, good_channels, nets_of, rows_of, shortest_pieces
 from small_channels import named_channels, parked_in, shape_of, shapes, without_parked
@@ -55,12 +57,16 @@ def asked(seed):
 # --- the search against all sets of pieces --------------------------------------------------------------------------
 
 def search_differences():
-    """Whether the search finds a layout, against all sets of all pieces."""
+    """Whether the search finds a layout, against all sets of all pieces; and that no such set is below the floor of
+    layouts with one trunk a net."""
     for width, tracks in SEARCH_GRIDS:
         good = good_channels(width, tracks, every_piece(width, tracks), True)
         for top, bot in shapes(width):
             if (Search(top, bot, tracks).layout() is not None) != (nets_of(top, bot) in good):
                 yield f"the search and all sets of pieces differ on {tracks} tracks", (top, bot)
+            fault = nets_of(top, bot) in good and turned_checks.floor_fault((top, bot), tracks)
+            if fault:
+                yield fault, (top, bot)
 
 
 def floor_differences():
@@ -78,7 +84,8 @@ def aside(name):
     return list(ASIDE[name]())
 
 
-ASIDE = {"records": parked_checks.record_differences, "floor": floor_differences, "search": search_differences}
+ASIDE = {"turned": turned_checks.all_differences, "records": parked_checks.record_differences,
+         "floor": floor_differences, "search": search_differences}
 
 
 # --- the router -----------------------------------------------------------------------------------------------------
@@ -149,15 +156,17 @@ def shapes_of(rows):
 
 
 def checked(channels):
-    """The differences of some channels, and how many are tangled, have no column with two nets, have parked pins, or
-    take as many looks as the ceiling; for a process of its own."""
+    """The differences of some channels, and how many are tangled, have no column with two nets, have parked pins, take
+    as many looks as the ceiling, or take more tracks one way up; for a process of its own."""
     found = {shape: fewest(shape) for shape in {shape for rows in channels for shape in shapes_of(rows)}}
     differences = [*router_differences(channels, found), *parked_checks.search_differences(channels, found),
-                   *parked_checks.router_differences(channels), *looks_checks.entry_differences(channels)]
+                   *parked_checks.router_differences(channels), *looks_checks.entry_differences(channels),
+                   *turned_checks.entry_differences(channels), *turned_checks.floor_differences(found)]
     return differences, Counter(tangled=sum(found[shape_of(*rows)] is None for rows in channels),
                                 free=sum(free(*rows) for rows in channels),
                                 parked=len(parked_checks.with_parked(channels)),
-                                most_looks=sum(0 < channel.looks(*rows) == channel.ceiling(*rows) for rows in channels))
+                                most_looks=sum(0 < channel.looks(*rows) == channel.ceiling(*rows) for rows in channels),
+                                sided=sum(turned_checks.is_sided(rows) for rows in channels))
 
 
 def compare(seed):
@@ -174,7 +183,9 @@ def compare(seed):
         f"{len(channels)} channels, {different} but for the names of nets; {counts['tangled']} have no layout with one"
         f" trunk a net and are refused, the others are routed well; {counts['free']} have no column with two nets and"
         f" as many tracks as the density; {counts['parked']} have parked pins and are answered as without them;"
-        f" {counts['most_looks']} with nets to place take as many looks as the ceiling, none takes more")
+        f" {counts['most_looks']} with nets to place take as many looks as the ceiling, none takes more; turned over"
+        " each is tangled as it was and has the same density and chain, and the router's tracks differ in"
+        f" {counts['sided']}; no layout with one trunk a net has fewer tracks than density or chain")
 
 
 def main(arguments):

@@ -15,6 +15,7 @@ import program_cases
 import random_boards
 import small_channels
 import text_cases
+import turned_checks
 
 ROWS = ([0, 1, 2, 3], [1, 2, 0, 3])
 PINS = "TOP 0 1 2 3\nBOT 1 2 0 3"
@@ -139,6 +140,49 @@ def looks_entry_faults(first_difference):
             yield f"the wrong entry {wrong} is not found where the parked pins are removed"
 
 
+def seeing(name, seen):
+    """Puts a wrong function in place of one of channel.py: it sees of the rows what `seen` leaves of them."""
+    right = getattr(channel, name)
+    return mock.patch.object(channel, name, lambda top, bot: right(*seen(top, bot)))
+
+
+def turned_faults():
+    """Programs that answer otherwise of a board turned over, on refused rows and on all channels of up to 3 columns; a
+    layout below the floor; and a channel that takes more tracks one way up."""
+    high, small = [((1, 1), (0, 512))], [shape for width in (1, 2, 3) for shape in small_channels.shapes(width)]
+    wrong = {
+        "a net counts only if TOP has a pin of it": seeing(
+            "bounds", lambda top, bot: (top, tuple(net if net in top else 0 for net in bot))),
+        "the fill does not see BOT's last pin": seeing("filled", lambda top, bot: (top, (*bot[:-1], 0))),
+        "copper stays on its track": mock.patch.object(turned_checks, "turned_pieces", lambda _, pieces: pieces),
+    }
+    for name, program in wrong.items():
+        with program:
+            found = list(turned_checks.small_differences(small))
+        if not found:
+            yield f"a program that gets a board turned over wrong is not found: {name}"
+    with seeing("check", lambda top, _: (top, top)):
+        found = list(turned_checks.large_differences(high))
+    if not found or list(turned_checks.large_differences(high)):
+        yield "refused rows of which only TOP is checked are not found, or right ones called wrong"
+    chain = (1, 1, 0), (0, 2, 2)
+    if turned_checks.floor_fault(chain, 2) or not list(turned_checks.floor_differences({chain: (1, [])})):
+        yield "a layout below the floor is not found, or one on it is called below"
+    if not turned_checks.numbering_fault(turned_checks.SIDED):
+        yield "a channel that takes more tracks one way up is not found"
+
+
+def turned_entry_faults():
+    """An entry that tells another density of some channels turned over."""
+    small = [tuple(map(list, shape)) for shape in small_channels.shapes(2)]
+    program = batch.PROGRAM.with_name("batch_turned")
+    batch.build(program=program, source="wrong_turned.c")
+    if list(turned_checks.entry_differences(small)):
+        yield "the right density and chain are called wrong"
+    if not any("turned over" in fault for fault, _ in turned_checks.entry_differences(small, program)):
+        yield "the wrong density of a channel turned over is not found"
+
+
 def with_parked_records(text):
     """The listing that is due, with a record for each parked net as if it were straight."""
     lines = channel.listing(text).splitlines(keepends=True)
@@ -209,10 +253,12 @@ def compare(first_difference, lacking):
     faults = [*form_checks.faults(), *looks_checks.faults(), *program_faults(first_difference),
               *entry_faults(first_difference), *buffer_faults(), *search_faults(),
               *parked_entry_faults(first_difference), *looks_entry_faults(first_difference),
-              *parked_record_faults(first_difference), *reader_faults(first_difference)]
+              *turned_faults(), *turned_entry_faults(), *parked_record_faults(first_difference),
+              *reader_faults(first_difference)]
     if lacking({1, 2}, {1, 2, 3}) is None or lacking({1, 2}, {1, 2}):
         faults.append("a number that is never answered is not told")
     return faults[0] if faults else None, (
         "the form is as its states say, and looks as they are counted one by one; wrong answers of programs and"
         " entries, spoilt buffers, a wrong search, readers that get spaces or line ends wrong, records, copper, steps,"
-        " density and a judge that get parked pins wrong, and wrong looks and ceilings are found and shown")
+        " density and a judge that get parked pins wrong, wrong looks and ceilings, and what gets a board turned over"
+        " wrong are found and shown")

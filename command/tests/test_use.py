@@ -3,7 +3,7 @@ import subprocess
 
 from command.tests.workshop import A, LISTED, ROOT, TANGLED, Workshop
 
-COMMANDS = ("make", "list", "board", "judge", "picture", "order")
+COMMANDS = ("make", "list", "board", "turn", "judge", "picture", "order")
 
 
 class Help(Workshop):
