@@ -160,6 +160,37 @@ judgedWith text change =
 abbrev lopsided : List ℕ
 lopsided = bytes "TOP 1 2 1 3 3\nBOT 0 0 0 0 2\n"
 
+-- a chain of three nets, and a layout of it in which net 2 changes its track in a column without pins
+abbrev chained : List ℕ
+chained = bytes "TOP 1 1 0 2 0\nBOT 0 2 0 3 3\n"
+
+abbrev splitTrunks : Layout
+splitTrunks =
+    record {
+      tracks = 2;
+      pieces =
+          Trunk (track 2) (column 1) (column 2)
+          ∷ Branch (column 1) (row 2) (row 3)
+          ∷ Contact (column 1) (track 2)
+          ∷ Branch (column 2) (row 2) (row 3)
+          ∷ Contact (column 2) (track 2)
+          ∷ Trunk (track 1) (column 2) (column 3)
+          ∷ Branch (column 2) (row 0) (row 1)
+          ∷ Contact (column 2) (track 1)
+          ∷ Branch (column 3) (row 1) (row 2)
+          ∷ Contact (column 3) (track 1)
+          ∷ Contact (column 3) (track 2)
+          ∷ Trunk (track 2) (column 3) (column 4)
+          ∷ Branch (column 4) (row 2) (row 3)
+          ∷ Contact (column 4) (track 2)
+          ∷ Trunk (track 1) (column 4) (column 5)
+          ∷ Branch (column 4) (row 0) (row 1)
+          ∷ Contact (column 4) (track 1)
+          ∷ Branch (column 5) (row 0) (row 1)
+          ∷ Contact (column 5) (track 1)
+          ∷ [];
+    }
+
 -- of the list turned over: what the router tells, density and chain, and the drawing turned over and judged for it
 abbrev turnedOver : List ℕ → List (List ℕ)
 turnedOver text =
@@ -240,6 +271,12 @@ pub starred :
     ∷ same (bound lopsided) (2 ∷ 2 ∷ [])
     ∷ sameLists (turnedOver lopsided) ((0 ∷ 15 ∷ 2 ∷ []) ∷ (2 ∷ 2 ∷ []) ∷ (0 ∷ 3 ∷ []) ∷ [])
     ∷ same (backOver lopsided) (0 ∷ 2 ∷ [])
+    -- the chain of 3 is a floor for layouts with one trunk piece per net, and for those alone: with a split trunk 2
+    -- tracks are enough, turned over too
+    ∷ same (bound chained) (2 ∷ 3 ∷ [])
+    ∷ same (routed chained) (0 ∷ 15 ∷ 3 ∷ [])
+    ∷ same (layoutJudged (textChannel chained) splitTrunks) (0 ∷ 2 ∷ [])
+    ∷ same (layoutJudged (turned (textChannel chained)) (flipped splitTrunks)) (0 ∷ 2 ∷ [])
     -- B takes one track more turned over; C and D stay tangled, with rings of their own
     ∷ sameLists (turnedOver textB) ((0 ∷ 30 ∷ 6 ∷ []) ∷ (4 ∷ 3 ∷ []) ∷ (0 ∷ 5 ∷ []) ∷ [])
     ∷ same (channelRouted (turned (textChannel textC))) (7 ∷ 2 ∷ [])
