@@ -68,7 +68,8 @@ static inline uint32_t cabjirt_value(uint64_t answer) { return (uint32_t)answer;
 uint64_t cabjirt_read(const uint8_t *text, size_t text_length, uint32_t *top, size_t top_length, uint32_t *bot,
                       size_t bot_length);
 
-/* The bounds of a channel. Value: density * 65536 + chain; a tangled channel has chain 0. Refusals 3 to 5. */
+/* The bounds of a channel. Value: density * 65536 + chain; a tangled channel has chain 0. Refusals 3 to 5. No good
+ * board has fewer tracks than the density, and none with at most one trunk a net fewer than the chain. */
 uint64_t cabjirt_bounds(const uint32_t *top, size_t top_length, const uint32_t *bot, size_t bot_length);
 
 /* Routes a channel. Value: pieces * 65536 + tracks; the first 4 + 4 * pieces bytes of the board are the board file, the
