@@ -46,7 +46,7 @@ module _ (ch : Channel) where
   unfolding isNet
   net-turned n = ap (λ (k : ℕ). ltb 0 n && ltb 1 k) (count-turned n)
 
-  pub same-pins : length (ch .bot) ≡ width ch → SamePins (turned ch) ch
+  same-pins : length (ch .bot) ≡ width ch → SamePins (turned ch) ch
   same-pins even =
       record {
         wide = even;
@@ -54,7 +54,7 @@ module _ (ch : Channel) where
         pin = λ n c. ap₂ _&&_ (net-turned n) (or-comm (eqb (at (ch .bot) c) n) (eqb (at (ch .top) c) n));
       }
 
-  -- the net above is the net below
+  -- above and below are exchanged
   pub above-turned : {a b c : ℕ} → Above ch a b c → Above (turned ch) b a c
   above-turned {a} {b} h =
       record {

@@ -1,6 +1,6 @@
 -- 01, "Bench examples (* proved)", and 02, Reqs 01, 02, 04 and 07: A to J, and K, come out of the definitions as the
--- paper prints them, padded lists with CR LF as Req 01 says, lists turned over as Req 02 says, channels with parked pins
--- as Req 04 says, and looks as Req 07 says, by one computed check.
+-- paper prints them, padded lists with CR LF as Req 01 says, lists turned over as Req 02 says, channels with parked
+-- pins as Req 04 says, and looks as Req 07 says, by one computed check.
 use Prim.Native.Nat.{ℕ, zero, suc}
 use mathlib.Core.Path.{_≡_, refl}
 use mathlib.Core.List.{List, [], _∷_, _++_, map}

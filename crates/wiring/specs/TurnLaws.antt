@@ -97,11 +97,10 @@ module _ (ch : Channel) (l : Layout) where
       }
 
   -- turned over twice, a layout on the grid is what it was
-  module _ (grid : AllOnGrid ch l) where
-    flipped-twice : flipped (flipped l) ≡ l
-    flipped-twice =
-        ap {B = Layout} (λ (ps : List Piece). record { tracks = t; pieces = ps })
-        (map-undone (flip t) (flip t) (l .pieces) (λ p m. flip-flip (width ch) t p (grid p m)))
+  flipped-twice : AllOnGrid ch l → flipped (flipped l) ≡ l
+  flipped-twice grid =
+      ap {B = Layout} (λ (ps : List Piece). record { tracks = t; pieces = ps })
+      (map-undone (flip t) (flip t) (l .pieces) (λ p m. flip-flip (width ch) t p (grid p m)))
 
 module _ (ch : Channel) (l : Layout) (grid : AllOnGrid ch l) where
   back : {x y : Pin} → Joined (turned ch) (flipped l) (pin x) (pin y) → Joined ch l (pin (across x)) (pin (across y))
@@ -121,7 +120,7 @@ module _ (ch : Channel) (l : Layout) (grid : AllOnGrid ch l) where
     λ one n i j p q. one n i j (turn-trunk ch l p) (turn-trunk ch l q),
   )
 
-  pub good→turned : length (ch .bot) ≡ width ch → Good ch l → Good (turned ch) (flipped l)
+  good→turned : length (ch .bot) ≡ width ch → Good ch l → Good (turned ch) (flipped l)
   unfolding turn
   good→turned even g = record { onGrid = onGrid; joins = joins; floats = floats }
     where
