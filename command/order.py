@@ -1,7 +1,8 @@
 """channel order [PINS]
 
-Opens the order screen: type or load a pin list and see at once its board, or the refusal with its place marked; save
-the list and the board, judge a board file. Through a pipe it takes commands as lines: `echo help | channel order`.
+Opens the order screen: type or load a pin list and see at once its board, or the refusal with its place marked; turn
+the list over, save it and its board, judge a board file. Through a pipe it takes commands as lines:
+`echo help | channel order`.
 """
 import os
 import signal

@@ -63,6 +63,7 @@ def both_keys(s):
         expect_message(s, "turned back: told", "turned over: 3 tracks, 2 before")
         s.type(LEFT)
         expect_message(s, "the message goes", "")
+        typed(s, A)  # which has 2 tracks
         s.type(UP + CLEAR + "1 2 1 3 3" + DOWN + CLEAR + "0 0 0 0 2" + key)
         expect_message(s, "typed ahead: told", "turned over: 2 tracks, 3 before")
         expect_rows(s, "typed ahead: rows", *UNLIKE[::-1])
@@ -179,11 +180,14 @@ def cursor(s, folder):
 def judged(s, folder):
     """A judged board gives way to that of the turned list; the tracks told are those of the list."""
     boards = damaged()
+    tracks, _, pieces = channel.draw(*A)
+    taller = [(kind, line, a, b + (kind == 1 and b > tracks)) for kind, line, a, b in pieces]
+    boards["good"] = channel.encode(4, tracks + 1, taller)  # a track more than the list's own board has
     for name in ("good", "h"):
         (folder / name).write_bytes(boards[name])
         load(s, folder, text_of(A), unsaved=name == "good")
         s.type(JUDGE + name + ENTER)
-        s.expect_start(f"{name}: judged", VERDICT, "GOOD 2" if name == "good" else "REFUSED 12 6")
+        s.expect_start(f"{name}: judged", VERDICT, "GOOD 3" if name == "good" else "REFUSED 12 6")
         s.type(TURN)
         expect_board(s, f"{name}: turned", A[::-1], "width 4  tracks 2  blank 8  density 2  chain 2  pieces 11")
         expect_message(s, f"{name}: told", "turned over: 2 tracks, as before")

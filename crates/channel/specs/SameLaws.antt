@@ -15,7 +15,7 @@ pub record SamePins (ch dh : Channel) : Type 0 where
   pub pin : (n c : ℕ) → hasPin ch n c ≡ hasPin dh n c
 
 module _ {ch dh : Channel} (same : SamePins ch dh) where
-  pub same-columns : (n : ℕ) → pinColumns ch n ≡ pinColumns dh n
+  same-columns : (n : ℕ) → pinColumns ch n ≡ pinColumns dh n
   unfolding pinColumns
   same-columns n =
       ap (λ (w : ℕ). keep (hasPin ch n) (upTo w)) (same .wide)

@@ -25,16 +25,6 @@ use Rattle.channel.specs.PathLaws.{path-nets, path-append, path-distinct
 use Rattle.channel.specs.ChainLaws.{chain-promise}
 
 module _ (ch : Channel) where
-  pub escapes-turned : Escapes ch → Escapes (turned ch)
-  escapes-turned esc =
-      let even = esc .even in
-      record {
-        narrow = subst (λ (w : ℕ). w ≤ 512) (sym even) (esc .narrow);
-        even = sym even;
-        wide = subst (λ (w : ℕ). 0 < w) (sym even) (esc .wide);
-        low = λ c. let l = esc .low c in (l .1, l .0);
-      }
-
   count-turned : (n : ℕ) → pinCount (turned ch) n ≡ pinCount ch n
   unfolding pinCount
   count-turned n =
@@ -46,6 +36,16 @@ module _ (ch : Channel) where
   unfolding isNet
   net-turned n = ap (λ (k : ℕ). ltb 0 n && ltb 1 k) (count-turned n)
 
+  pub escapes-turned : Escapes ch → Escapes (turned ch)
+  escapes-turned esc =
+      let even = esc .even in
+      record {
+        narrow = subst (λ (w : ℕ). w ≤ 512) (sym even) (esc .narrow);
+        even = sym even;
+        wide = subst (λ (w : ℕ). 0 < w) (sym even) (esc .wide);
+        low = λ c. let l = esc .low c in (l .1, l .0);
+      }
+
   same-pins : length (ch .bot) ≡ width ch → SamePins (turned ch) ch
   same-pins even =
       record {
@@ -55,7 +55,7 @@ module _ (ch : Channel) where
       }
 
   -- above and below are exchanged
-  pub above-turned : {a b c : ℕ} → Above ch a b c → Above (turned ch) b a c
+  above-turned : {a b c : ℕ} → Above ch a b c → Above (turned ch) b a c
   above-turned {a} {b} h =
       record {
         onTop = h .onBot;
@@ -93,14 +93,14 @@ module _ (ch : Channel) (esc : Escapes ch) where
   span-turned {n} m = subst (λ (ns : List ℕ). List·Memᴰ n ns) (sym (same-spanning same)) m
 
   -- a path down, read backwards
-  pub path-turned : {k a z : ℕ} → Path↓ ch k a z → Path↓ (turned ch) k z a
+  path-turned : {k a z : ℕ} → Path↓ ch k a z → Path↓ (turned ch) k z a
   path-turned (alone s) = alone (span-turned s)
   path-turned {a = a} {z = z} (down c h p) =
       let step = down c (above-turned ch h) (alone (span-turned (upper-spans ch esc h))) in
       subst (λ (m : ℕ). Path↓ (turned ch) m z a) (omega arith) (path-append (path-turned p) step)
 
   -- and so the path round a ring
-  pub tangled-turned : Tangled ch → Tangled (turned ch)
+  tangled-turned : Tangled ch → Tangled (turned ch)
   unfolding headOr
   tangled-turned (steps, ring) = round steps (ring .closed)
     where
@@ -122,7 +122,7 @@ module _ (ch : Channel) (esc : Escapes ch) where
           chain-promise (turned ch) (escapes-turned ch esc) .most (λ t. untangled (back t)) (chain ch) (p .1) (p .0)
           (path-turned ch esc (p .2))
 
-pub chain-turned : (ch : Channel) → Escapes ch → chain (turned ch) ≡ chain ch
+chain-turned : (ch : Channel) → Escapes ch → chain (turned ch) ≡ chain ch
 chain-turned ch esc =
     let up = chain≤turned ch esc in let down = chain≤turned (turned ch) (escapes-turned ch esc) in omega arith
 

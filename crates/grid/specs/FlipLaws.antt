@@ -10,7 +10,7 @@ use Rattle.grid.specs.Touching.{Covers, Touch}
 use Rattle.grid.specs.Flipped.{over, flip}
 
 -- a row of the board lies in its place again after two turns
-pub over-over : (t y : ℕ) → y ≤ t + 1 → over t (over t y) ≡ y
+over-over : (t y : ℕ) → y ≤ t + 1 → over t (over t y) ≡ y
 unfolding over
 over-over t y h = omega arith
 

@@ -1,5 +1,5 @@
--- The first number of a range that passes a test: none passes, or it is the lowest that does. And equal conditions have
--- the same lowest.
+-- The first number of a range that passes a test: none passes, or it is the lowest that does. And conditions that hold
+-- of the same numbers have the same lowest.
 use Prim.Native.Nat.{ℕ, zero, suc, _+_, _≤_, _<_}
 use native.Mathlib.Omega.{arith}
 use mathlib.Core.Path.{_≡_, refl, subst}
@@ -59,7 +59,7 @@ first-kept f a (suc n) = go (f a) refl (first-kept f (suc a) n)
         })
     go false e rest = past e rest
 
--- numbers of which the same holds have the same lowest
+-- conditions that hold of the same numbers have the same lowest
 pub lowest-same : {P Q : ℕ → Type 0} → ((n : ℕ) → P n ↔ Q n) → (p : ℕ) → Lowest P p ↔ Lowest Q p
 lowest-same h p = (
   λ l. record { holds = h p .0 (l .holds); lowest = λ q k. l .lowest q (h q .1 k) },

@@ -21,12 +21,6 @@ module _ {A : Type 0} where
   place-member (y ∷ ys) zero {x} e = List·Memᴰ·head (sym (Option·some-injective y x e))
   place-member (y ∷ ys) (suc k) e = List·Memᴰ·tail (place-member ys k e)
 
-  pub place-map : {B : Type 0} (f : A → B) (xs : List A) (k : ℕ) {x : A} → getElem? xs k ≡ some x
-      → getElem? (map f xs) k ≡ some (f x)
-  place-map f [] k {x} e = absurd (Option·none-ne-some x e)
-  place-map {B} f (y ∷ ys) zero {x} e = ap {B = Option B} (λ (z : A). some (f z)) (Option·some-injective y x e)
-  place-map f (y ∷ ys) (suc k) e = place-map f ys k e
-
   pub filled-place : (xs : List A) (k : ℕ) → k < length xs → (x : A) × (getElem? xs k ≡ some x)
   filled-place [] k h = absurd (omega arith)
   filled-place (y ∷ ys) zero h = (y, refl)

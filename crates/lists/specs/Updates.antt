@@ -1,5 +1,6 @@
--- Arrays and ranges that change by one number: a store in an array by number, what `keep` has of a range that is one
--- number longer, and the greatest with one member more.
+-- Lists by what functions give for their members, the same or undone. Arrays and ranges that change by one number: a
+-- store in an array by number, what `keep` has of a range that is one number longer, and the greatest with one member
+-- more.
 use Prim.Native.Nat.{ℕ, max, _+_, _<_}
 use native.Mathlib.Omega.{arith}
 use native.Mathlib.Numerals.{add-one}

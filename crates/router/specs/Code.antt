@@ -37,7 +37,7 @@ module _ (ch : Channel) (table : List NetRecord) (ring board : List ℕ) where
 
   -- What `route` answers, and what the caller's table and buffers then hold. Rules out: rows answered for, with the
   -- board untouched (boardHeld); a record with first and last exchanged, or a table written under a refusal
-  -- (tableHeld); and with the promises the wrong programs of RoutePromise, TurnedOver, ParkedBare and LooksPromise.
+  -- (tableHeld); and with the promises the wrong programs of RoutePromise, ParkedBare and LooksPromise.
   pub record RouteDone (r : Routed) (table′ : List NetRecord) (ring′ board′ : List ℕ) : Type 0 where
     pub answer : r .answer ≡ routeAnswer trays ch
     pub counted : r .count ≡ length (recordsUnless (routeRefusal trays ch) (recordsMade ch (fill ch)))

@@ -45,9 +45,9 @@ pub record HoldsLayout (ch : Channel) (t n : ℕ) (file : List ℕ) : Type 0 whe
   pub good : Good ch (fileLayout file)
   pub oneTrunkEach : OneTrunkEach ch (fileLayout file)
 
--- Demand 3, of the answer r and of the ring and board that the caller then holds. Rules out: a router that calls each
--- channel tangled, or does so before filling (tangled-exactly); one that hands out the same or an empty board
--- (laid-out); tracks answered one too many (laid-out, fewest).
+-- Demand 3, and the floor of Req 02, of the answer r and of the ring and board that the caller then holds. Rules out: a
+-- router that calls each channel tangled, or does so before filling (tangled-exactly); one that hands out the same or an
+-- empty board (laid-out); tracks answered one too many (laid-out, fewest).
 pub record RoutePromise (ch : Channel) (r : RouteAnswer) (ring board : List ℕ) : Type 0 where
   -- "refuses .. as tangled exactly when no good layout of it with at most one trunk piece per net exists"
   pub tangled-exactly : (routeTold r .number ≡ 7) ↔ NoLayout ch
@@ -71,8 +71,8 @@ pub record RoutePromise (ch : Channel) (r : RouteAnswer) (ring board : List ℕ)
 abbrev pub turnedBoard : ℕ → List ℕ → Layout
 turnedBoard n board = flipped (fileLayout (take (4 + 4 * n) board))
 
--- Req 02 of 02, of the answer r and of the board that the caller then holds. Rules out: a list that is refused one way
--- up and routed the other (tangled-exactly); copper that is good only the right way up (good).
+-- Req 02 of 02, of the answer r and of the board that the caller then holds. It follows from demand 3 and rules out no
+-- further program; it says of the turned list what a fitter asks.
 pub record TurnedOver (ch : Channel) (r : RouteAnswer) (board : List ℕ) : Type 0 where
   -- "a turned channel is tangled exactly when the first is"
   pub tangled-exactly : (routeTold r .number ≡ 7) ↔ Tangled (turned ch)

@@ -6,23 +6,22 @@ use native.Mathlib.Decide.{decLt}
 use mathlib.Core.List.{List·Memᴰ}
 use Rattle.lists.specs.Ranges.{place-member}
 use Rattle.grid.specs.Pieces.{Layout}
-use Rattle.grid.specs.TouchLaws.{one-row}
-use Rattle.channel.specs.Channel.{Channel, width, spanning}
+use Rattle.channel.specs.Channel.{Channel, spanning}
 use Rattle.channel.specs.Constraints.{Path↓, alone, down, chain}
 use Rattle.channel.specs.Answers.{Escapes}
 use Rattle.channel.specs.Laws.{net→pin, pin-in-first, pin-in-last}
 use Rattle.channel.specs.SpanLaws.{spanning→, span-strict}
 use Rattle.channel.specs.ChainLaws.{chain-promise}
 use Rattle.wiring.specs.Layouts.{Good, OneTrunkEach}
+use Rattle.wiring.specs.Floor.{trunk-track}
 use Rattle.wiring.specs.Order.{pin-of, leaves-column, HasTrack, leaves→track, above→lower, one-track, no-ring}
 
 module _ (ch : Channel) (esc : Escapes ch) (l : Layout) (g : Good ch l) where
   on-a-track : {n k : ℕ} → HasTrack ch esc l g n k → (1 ≤ k) × (k ≤ l .tracks)
   on-a-track h =
-      let trunk = h .owned .trunk in
       let on = h .onTrack in
-      let grid = g .onGrid (h .owned .piece) (place-member (l .pieces) (h .place) (h .owned .place)) in
-      let r = one-row (width ch) (l .tracks) (h .owned .piece) grid (λ e. absurd (omega arith)) in
+      let present = place-member (l .pieces) (h .place) (h .owned .place) in
+      let r = trunk-track ch esc l g (h .owned .piece) (h .owned .trunk) present in
       (omega (arith, r .1), omega (arith, r .2))
 
   -- a net with a span has pins in two columns, and so a trunk

@@ -40,7 +40,7 @@ module _ (ch : Channel) (esc : Escapes ch) (l : Layout) (g : Good ch l) where
     pub net : netOf ch place ≡ n
     pub joined : Joined ch l (pin place) (copper trunk)
 
-  trunk-track : (p : Piece) → kindOf p ≡ trunkKind → List·Memᴰ p (l .pieces)
+  pub trunk-track : (p : Piece) → kindOf p ≡ trunkKind → List·Memᴰ p (l .pieces)
       → (low p ≡ high p) × (1 ≤ low p) × (low p ≤ l .tracks)
   trunk-track p k m = one-row (width ch) (l .tracks) p (g .onGrid p m) (λ e. absurd (omega arith))
 

@@ -6,7 +6,7 @@ use mathlib.Core.Path.{_≡_, refl, sym, _∙_, ap, subst}
 use mathlib.Core.List.{List, List·Memᴰ, Memᴰ·map, Memᴰ·of-map}
 use mathlib.Core.Logic.{_↔_}
 use lib.ListN.{length}
-use Rattle.lists.specs.Ranges.{place-map}
+use Rattle.lists.specs.Places.{place-map}
 use Rattle.lists.specs.Updates.{map-undone}
 use Rattle.grid.specs.declared.Piece.{Piece}
 use Rattle.grid.specs.Pieces.{OnGrid, Layout}
