@@ -45,9 +45,9 @@ pub record HoldsLayout (ch : Channel) (t n : ℕ) (file : List ℕ) : Type 0 whe
   pub good : Good ch (fileLayout file)
   pub oneTrunkEach : OneTrunkEach ch (fileLayout file)
 
--- Demand 3, and the floor of Req 02, of the answer r and of the ring and board that the caller then holds. Rules out: a
--- router that calls each channel tangled, or does so before filling (tangled-exactly); one that hands out the same or an
--- empty board (laid-out); tracks answered one too many (laid-out, fewest).
+-- Demand 3, and the floor of Req 02, of the answer r and of the ring and board that the caller then holds. Rules out:
+-- a router that calls each channel tangled, or does so before filling (tangled-exactly); one that hands out the same or
+-- an empty board (laid-out); tracks answered one too many (laid-out, fewest).
 pub record RoutePromise (ch : Channel) (r : RouteAnswer) (ring board : List ℕ) : Type 0 where
   -- "refuses .. as tangled exactly when no good layout of it with at most one trunk piece per net exists"
   pub tangled-exactly : (routeTold r .number ≡ 7) ↔ NoLayout ch
