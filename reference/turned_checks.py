@@ -14,12 +14,12 @@ import channel
 import random_channels
 import row_cases
 from layout_search import TRUNK, fewest
-from small_channels import parked_in, shapes
+from small_channels import named_channels, parked_in, shapes
 
 COLUMNS = 4  # every channel of up to so many columns is tried; with as many the search only where no pin is parked
 DRAWN = 600  # channels, and as many rows that may be refused
 # The router takes 3 tracks of this channel, and 2 of the same turned over. No channel of fewer columns takes more
-# tracks one way up than the other.
+# tracks one way up than the other, and none of as many columns with two nets; three nets with spans have six pins.
 SIDED = ([1, 2, 1, 3, 3], [0, 0, 0, 0, 2])
 
 
@@ -123,6 +123,13 @@ def floor_differences(found):
 
 # --- all of it ------------------------------------------------------------------------------------------------------
 
+def fewer_nets_differences():
+    """No channel with two nets, as wide as the sided one, is sided itself."""
+    for rows in named_channels(len(SIDED[0]), 2):
+        if is_sided(rows):
+            yield f"it takes {tracks_taken(rows)} tracks, the latter turned over", rows
+
+
 def checks_of(rows):
     """What a small channel is put to."""
     searched = len(rows[0]) < COLUMNS or not parked_in(*rows)
@@ -167,6 +174,7 @@ def differences():
     """Each fault of the independent program on all these, with its channel."""
     yield from small_differences(rows for width in range(1, COLUMNS + 1) for rows in shapes(width))
     yield from large_differences([*drawn(), *refused()])
+    yield from fewer_nets_differences()
     if tracks_taken(SIDED) != (3, 2):
         yield f"it takes {tracks_taken(SIDED)} tracks, the latter turned over; 3 and 2 are due", SIDED
 

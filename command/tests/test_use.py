@@ -1,4 +1,5 @@
 """Words on the command line, help, version, links to the command, and outputs that can't be written."""
+import os
 import subprocess
 
 from command.tests.workshop import A, LISTED, ROOT, TANGLED, Workshop
@@ -72,17 +73,25 @@ class FullOutput(Workshop):
     def test_full(self):
         self.put("board", self.board)
         self.put("tangled", TANGLED)
+        self.put("empty", b"")
         for words in (("list", "pins"), ("board", "pins"), ("judge", "pins", "board"), ("picture", "pins"),
-                      ("list", "tangled"), ("make", "tangled", "new"), ("make", "pins", "-"), ("--help",),
-                      ("--version",)):
+                      ("list", "tangled"), ("make", "tangled", "new"), ("make", "pins", "-"), ("turn", "pins"),
+                      ("turn", "tangled"), ("turn", "empty"), ("--help",), ("--version",)):
             self.full(*words)
 
+    def test_closed(self):
+        for words in (("list", "pins"), ("board", "pins"), ("turn", "pins")):
+            done = self.run_channel(*words, preexec_fn=lambda: os.close(1))
+            self.assertEqual(done.status, 2, words)
+            self.assertIn("cannot write standard output: it is closed", done.words)
+
     def test_a_reader_that_has_gone(self):
-        with subprocess.Popen(["true"], stdin=subprocess.PIPE) as gone:
-            gone.wait()
-            done = self.run_channel("list", "pins", stdout=gone.stdin)
-        self.assertEqual(done.status, 2)
-        self.assertIn("cannot write standard output", done.words)
+        for command in ("list", "turn"):
+            with subprocess.Popen(["true"], stdin=subprocess.PIPE) as gone:
+                gone.wait()
+                done = self.run_channel(command, "pins", stdout=gone.stdin)
+            self.assertEqual(done.status, 2, command)
+            self.assertIn("cannot write standard output", done.words)
 
     def test_standard_error_that_is_full_changes_no_status(self):
         self.put("tangled", TANGLED)
