@@ -5,7 +5,7 @@ from pathlib import Path
 TABLE = Path(__file__).resolve().parent / "refusals.tsv"
 HEADING = ["number", "word", "meaning", "remedy"]
 UNUSED = 6  # stands for no refusal; the numbers after it are as the paper has them
-NUMBERS = tuple(number for number in range(15) if number != UNUSED)
+NUMBERS = tuple(number for number in range(17) if number != UNUSED)
 
 Refusal = namedtuple("Refusal", HEADING)
 

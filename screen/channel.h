@@ -36,6 +36,8 @@
  *   12  open         the lowest pin position not joined to its net's first pin
  *   13  floating     the number of the lowest piece joined to no pin
  *   14  no blank     the tracks wanted
+ *   15  bad table    the first bad entry of a table of blanks, from 1; 0 if it has none or more than 64
+ *   16  no stock     the tracks wanted, which no entry of the table holds
  *
  * The number 6 is not used.
  */
@@ -93,6 +95,11 @@ uint64_t cabjirt_judge(const uint32_t *top, size_t top_length, const uint32_t *b
 
 /* The smallest stock blank that holds so many tracks. Value: the tracks that it holds. Refusal 14. */
 uint64_t cabjirt_blank(uint32_t tracks);
+
+/* The smallest entry that holds so many tracks, of a customer's own table of 1 to 64 track counts, each 1 to 512 and
+ * strictly rising; the table is checked at each call, and only read. 0 tracks take the first entry. Value: the entry
+ * chosen. Refusals 14 to 16, in that order: over 512 tracks are refused with 14 whatever the table is. */
+uint64_t cabjirt_own_blank(const uint32_t *table, size_t table_length, uint32_t tracks);
 
 #ifdef __cplusplus
 }

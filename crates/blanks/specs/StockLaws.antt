@@ -1,39 +1,71 @@
--- The rule of the stock blanks, over any rising table: where some blank holds t, the first that does is the smallest
--- that does.
-use Prim.Native.Nat.{ℕ, _≤_}
-use mathlib.Core.List.{List, List·Memᴰ}
-use lib.Dec.{T, leb, leb→le, le→leb}
-use Rattle.lists.specs.Lists.{keep, allOf, anyOf, isIn, headOr}
-use Rattle.lists.specs.Members.{keep-member, kept, isIn→member}
-use Rattle.lists.specs.Ends.{head-member, head-least, keep-rising, Rising, rises, rises→}
-use Rattle.blanks.specs.Stock.{stock, smallestFor}
+-- The stock is a table that passes, and the choice among its blanks is one case of the choice among a customer's own.
+use Prim.Native.Nat.{ℕ, _≤_, _<_}
+use native.Mathlib.Omega.{arith}
+use native.Mathlib.Decide.{decLe}
+use mathlib.Core.Path.{_≡_, refl, sym, _∙_, ap}
+use lib.ListN.{length, getD}
+use lib.Dec.{ltb, ltb→lt, lt→ltb}
+use Rattle.lists.specs.Lists.{keep, from, headOr, lastOr, at}
+use Rattle.lists.specs.Ends.{getD-member}
+use Rattle.refusal.specs.declared.Refusal.the-variants.{NoBlank, NoStock}
+use Rattle.refusal.specs.Refusals.{answered}
+use Rattle.refusal.specs.ChainLaws.{none-refuse-if, some-refuse-if, some-or-else}
+use Rattle.blanks.specs.declared.BlankAnswer.the-variants.{Blank, Refused}
+use Rattle.blanks.specs.Stock.{stock, smallestFor, noBlank, blankAnswer}
+use Rattle.blanks.specs.Laminate.{badEntry, noStock, ownRefusal, ownAnswer}
+use Rattle.blanks.specs.Promise.{Passes, Chosen}
+use Rattle.blanks.specs.Code.{FirstThatHolds}
+use Rattle.blanks.specs.ChosenLaws.{smallest-holds}
+use Rattle.blanks.specs.OwnLaws.{past-table, found-none, found-held, done, over, held}
 
--- "the smallest that holds t is chosen"
-pub record Chosen (table : List ℕ) (t : ℕ) : Type 0 where
-  pub inTable : List·Memᴰ (smallestFor table t) table
-  pub holds : t ≤ smallestFor table t
-  pub smallest : (b : ℕ) → List·Memᴰ b table → t ≤ b → smallestFor table t ≤ b
+stock-length : length stock ≡ 12
+unfolding stock
+stock-length = refl
 
-pub smallest-holds : (table : List ℕ) (t b : ℕ) → List·Memᴰ b table → t ≤ b → Rising table → Chosen table t
-unfolding smallestFor
-smallest-holds table t b m h r =
-    let those = kept (leb t) m (le→leb t b h) in
-    let first = keep-member (leb t) table (head-member 0 those) in
-    record {
-      inTable = first .0;
-      holds = leb→le t (headOr 0 (keep (leb t) table)) (first .1);
-      smallest = λ c k l. head-least (keep (leb t) table) 0 (keep-rising (leb t) table r)
-          (kept (leb t) k (le→leb t c l));
-    }
+-- computed over the whole table
+pub stock-passes : Passes stock
+unfolding stock badEntry keep from headOr at
+stock-passes = found-none stock (omega (arith, stock-length), omega (arith, stock-length)) refl
 
--- the test that is computed over the whole table
-stock-rises : T (rises stock)
-unfolding rises allOf stock
-stock-rises = tt
+stock-last : lastOr 0 stock ≡ 512
+unfolding stock lastOr
+stock-last = refl
 
-largest : T (isIn 512 stock)
-unfolding anyOf stock
-largest = tt
+largest : getD stock 11 0 ≡ 512
+unfolding stock
+largest = refl
 
-pub stock-chosen : (t : ℕ) → t ≤ 512 → Chosen stock t
-stock-chosen t h = smallest-holds stock t 512 (isIn→member 512 stock largest) h (rises→ stock stock-rises)
+pub stock-chosen : (t : ℕ) → t ≤ 512 → Chosen stock t (smallestFor stock t)
+stock-chosen t h =
+    smallest-holds stock t (getD stock 11 0) (getD-member stock 11 (omega (arith, stock-length)))
+    (omega (arith, largest)) (stock-passes .rising)
+
+one-refusal : (t : ℕ) → ownRefusal stock t ≡ noBlank t
+unfolding noStock noBlank ownRefusal
+one-refusal t =
+    elim (decLe t 512) [
+      | yes h ↦
+          past-table stock t h stock-passes
+          ∙ (none-refuse-if (ltb (lastOr 0 stock) t) (NoStock t) (λ w.
+          let l = ltb→lt (lastOr 0 stock) t w in omega (arith, stock-last))
+          ∙ sym (none-refuse-if (ltb 512 t) (NoBlank t) (λ w. let l = ltb→lt 512 t w in omega arith)))
+      | no h ↦
+          let refused = some-refuse-if (ltb 512 t) (NoBlank t) (lt→ltb 512 t (omega arith)) in
+          some-or-else _ _ (NoBlank t) refused ∙ sym refused
+    ]
+
+-- "The listing keeps our table": what is answered of it is what is answered of a customer's own
+pub one-case : (t : ℕ) → ownAnswer stock t ≡ blankAnswer t
+unfolding ownAnswer blankAnswer
+one-case t = ap (λ a. answered Refused a (Blank (smallestFor stock t))) (one-refusal t)
+
+-- what the search through the stock has found
+module _ {t i : ℕ} (found : FirstThatHolds stock t i) where
+  pub chosen : i < 12 → Blank (getD stock i 0) ≡ blankAnswer t
+  chosen h =
+      done stock t (held stock-passes (found-held stock stock-passes found (omega (arith, stock-length)))) .answer
+      ∙ one-case t
+
+  pub none-chosen : 12 ≤ i → Refused (NoBlank t) ≡ blankAnswer t
+  none-chosen h =
+      done stock t (over (let below = found .before 11 (omega arith) in omega (arith, largest))) .answer ∙ one-case t

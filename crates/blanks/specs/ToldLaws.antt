@@ -1,19 +1,23 @@
--- The choice of a blank is told by its refusal, exactly over 512 tracks, or by the tracks of the blank, at most 512.
-use Prim.Native.Nat.{ℕ, _≤_, _<_}
+-- The choice of a blank is told by its refusal, of the stock exactly over 512 tracks, or by the tracks of the blank, at
+-- most 512. The place of a refusal is no larger, or the tracks themselves.
+use Prim.Native.Nat.{ℕ, max, _≤_, _<_}
 use native.Mathlib.Omega.{arith}
 use native.Mathlib.Decide.{decLe}
-use mathlib.Core.Path.{_≡_, refl, sym, _∙_, ap}
-use mathlib.Core.List.{[], _∷_}
+use mathlib.Core.Path.{_≡_, refl, sym, _∙_, ap, subst}
+use mathlib.Core.List.{List, [], _∷_}
 use mathlib.Core.Logic.{_↔_}
-use lib.Dec.{leb, leb→le}
 use borrow.Author.Tests.{lt-ltb, le-ltb}
-use Rattle.lists.specs.Members.{all→member}
+use Rattle.lists.specs.Lists.{headOr}
 use Rattle.refusal.specs.Refusals.{refuseIf, toldBy}
 use Rattle.refusal.specs.ToldLaws.{answered-told, told-success}
+use Rattle.blanks.specs.declared.BlankAnswer.{BlankAnswer}
 use Rattle.blanks.specs.declared.BlankAnswer.the-variants.{Blank}
 use Rattle.blanks.specs.Stock.{stock, smallestFor, noBlank, blankAnswer, blankTold}
-use Rattle.blanks.specs.StockLaws.{stock-chosen}
-use Rattle.blanks.specs.CodeLaws.{none-over}
+use Rattle.blanks.specs.Laminate.{ownRefusal, ownAnswer}
+use Rattle.blanks.specs.Promise.{BadAt, no-count, first-bad}
+use Rattle.blanks.specs.Code.{valueTold}
+use Rattle.blanks.specs.OwnLaws.{Outcome, over, bad, none-holds, held, outcome, done}
+use Rattle.blanks.specs.StockLaws.{stock-passes, stock-chosen}
 
 module _ (t : ℕ) where
   pub blank-told : blankTold (blankAnswer t) ≡ toldBy (noBlank t) (smallestFor stock t ∷ [])
@@ -45,5 +49,26 @@ module _ (t : ℕ) where
       chosen h =
           let s = told-success (noBlank t) (smallestFor stock t ∷ []) (b ∷ []) (sym blank-told ∙ ap blankTold e) .1 in
           let same : smallestFor stock t ≡ b = cc in
-          let m = all→member (λ (k : ℕ). leb k 512) none-over (stock-chosen t h .inTable) in
-          omega (arith, leb→le (smallestFor stock t) 512 m)
+          let range = stock-passes .inRange _ (stock-chosen t h .inTable) in
+          omega arith
+
+module _ (table : List ℕ) (t : ℕ) where
+  pub own-told : blankTold (ownAnswer table t) ≡ toldBy (ownRefusal table t) (smallestFor table t ∷ [])
+  unfolding ownAnswer blankTold
+  own-told = answered-told blankTold _ _ _ (λ r. refl) refl (ownRefusal table t)
+
+  place-small : {p : ℕ} → BadAt table p → p ≤ 64
+  place-small (no-count h e) = omega arith
+  place-small (first-bad count lowest) = let inside = lowest .holds .inTable in omega arith
+
+  value-small : {a : BlankAnswer} → Outcome table t a → valueTold a ≤ max t 512
+  unfolding blankTold headOr
+  value-small (over h) = omega arith
+  value-small (bad h b) = let few = place-small b in omega arith
+  value-small (none-holds h passes below) = omega arith
+  value-small (held passes chosen) = let range = passes .inRange _ (chosen .inTable) in omega arith
+
+  pub own-small : valueTold (ownAnswer table t) ≤ max t 512
+  own-small =
+      let ended = outcome table t in
+      subst (λ a. valueTold a ≤ max t 512) (done table t (ended .1) .answer) (value-small (ended .1))

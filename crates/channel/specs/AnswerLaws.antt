@@ -1,39 +1,23 @@
 -- What the row check answers, test by test: the refusal that a test leads to, and what is left of the chain past it.
 use Prim.Native.Nat.{ℕ, suc, min, _≤_, _<_}
 use native.Mathlib.Omega.{arith}
-use mathlib.Core.Path.{_≡_, refl, sym, _∙_, ap, subst}
-use mathlib.Core.List.{List, [], _∷_}
+use mathlib.Core.Path.{_≡_, sym, _∙_, ap, subst}
 use mathlib.Core.Logic.{_⊎_, ⊎-elim}
-use mathlib.Core.Bool.{Bool, _||_, not}
-use mathlib.Core.Option.{none, some}
+use mathlib.Core.Bool.{_||_, not}
+use mathlib.Core.Option.{some}
 use lib.ListN.{length}
 use lib.Dec.{T, ltb, eqb, ltb→lt, lt→ltb, eqb→eq, eqb-refl}
-use Rattle.lists.specs.Lists.{keep, upTo, headOr}
 use Rattle.lists.specs.Tests.{or-cases, or-left, or-right, not-passes, not-fails}
-use Rattle.lists.specs.Tallies.{firstOf, first-none, none-first}
 use Rattle.refusal.specs.declared.Refusal.{Refusal}
 use Rattle.refusal.specs.declared.Refusal.the-variants.{TooWide, Uneven, HighNet}
-use Rattle.refusal.specs.Refusals.{refuseAtFirst, _or-else_}
-use Rattle.refusal.specs.ChainLaws.{none-refuse-if, some-refuse-if, none-refuse-at-first, none-or-else-later}
+use Rattle.refusal.specs.Refusals.{_or-else_}
+use Rattle.refusal.specs.ChainLaws.{none-refuse-if, some-refuse-if, refuse-none, refuse-first, none-or-else-later}
 use Rattle.refusal.specs.ChainLaws.{some-or-else, answered-none, answered-some}
 use Rattle.channel.specs.declared.RowsAnswer.the-variants as checking
 use Rattle.channel.specs.Channel.{Channel, positions, widest}
 use Rattle.channel.specs.Answers.{tooWide, uneven, highNet, rowsRefusal, rowsAnswer}
 use Rattle.channel.specs.Rows.{firstHigh}
 use Rattle.channel.specs.RowLaws.{high, first-high-neither}
-
--- a refusal at the first of the places that pass: silent if the first is 0, and at the first otherwise
-refuse-none : (r : ℕ → Refusal) (f : ℕ → Bool) (n : ℕ) → firstOf f n ≡ 0 → refuseAtFirst r (keep f (upTo n)) ≡ none
-refuse-none r f n e = none-refuse-at-first r (keep f (upTo n)) (first-none f n (none-first f n e))
-
-refuse-first : (r : ℕ → Refusal) (f : ℕ → Bool) (n : ℕ) → (firstOf f n ≡ 0 → ⊥)
-    → refuseAtFirst r (keep f (upTo n)) ≡ some (r (firstOf f n))
-unfolding headOr refuseAtFirst
-refuse-first r f n = go (keep f (upTo n))
-  where
-    go : (ps : List ℕ) → (headOr 0 ps ≡ 0 → ⊥) → refuseAtFirst r ps ≡ some (r (headOr 0 ps))
-    go [] h = absurd (h refl)
-    go (p ∷ ps) h = refl
 
 module _ (ch : Channel) where
   -- no row is over 512

@@ -2,9 +2,7 @@
 use Prim.Native.Nat.{ℕ, zero, suc, _+_, _-_, _≤_}
 use native.Mathlib.Omega.{arith}
 use native.Mathlib.Decide.{decLe}
-use native.Mathlib.Numerals.{add-one}
-use mathlib.Core.Path.{_≡_, refl, sym, _∙_, ap, subst}
-use mathlib.Core.List.{List}
+use mathlib.Core.Path.{_≡_, refl, sym, _∙_, subst}
 use mathlib.Core.Logic.{_↔_, ⊎-elim}
 use mathlib.Core.Bool.{Bool, _||_, not}
 use mathlib.Core.Option.{none}
@@ -13,7 +11,7 @@ use lib.Dec.{T, ltb, eqb, ltb→lt, lt→ltb, eqb→eq, eqb-refl}
 use Rattle.lists.specs.Lists.{keep, upTo, at}
 use Rattle.lists.specs.Tests.{or-cases, or-left, or-right, not-passes, not-fails, equal?}
 use Rattle.lists.specs.Members.{upTo-member, in-upTo}
-use Rattle.lists.specs.Ends.{at-suc, at-inside}
+use Rattle.lists.specs.Ends.{at-suc, at-inside, at-next}
 use Rattle.lists.specs.Ranges.{none-kept→fails, fails→none-kept}
 use Rattle.refusal.specs.declared.Refusal.the-variants.{HighNet}
 use Rattle.refusal.specs.Refusals.{_or-else_}
@@ -155,9 +153,6 @@ pub accepted-exactly : (ch : Channel) → (rowsRefusal ch ≡ none) ↔ Escapes 
 accepted-exactly ch = (λ h. silent→escapes ch (silent→ ch h), λ e. →silent ch (escapes→silent ch e))
 
 -- what stands at place k of a row is column k + 1's, and at most 511
-pub at-next : (row : List ℕ) (k : ℕ) → at row (k + 1) ≡ getD row k 0
-at-next row k = ap (at row) (add-one k) ∙ at-suc row k
-
 module _ (ch : Channel) (k : ℕ) where
   pub top-low : Escapes ch → getD (ch .top) k 0 ≤ highestNet
   top-low esc = let e = at-next (ch .top) k in let h = esc .low (k + 1) .0 in omega arith

@@ -1,9 +1,8 @@
 -- The row check by its parts: the first high number of a row and of two rows put end to end, and what the counts of two
 -- rows tell of a channel's nets.
-use Prim.Native.Nat.{ℕ, zero, suc, _+_, _-_, _≤_, _<_}
+use Prim.Native.Nat.{ℕ, suc, _+_, _-_, _≤_, _<_}
 use native.Mathlib.Omega.{arith}
 use native.Mathlib.Decide.{decLe}
-use native.Mathlib.Numerals.{add-one}
 use mathlib.Core.Path.{_≡_, sym, _∙_, ap, subst}
 use mathlib.Core.List.{List, _++_}
 use mathlib.Core.Logic.{⊎-elim}
@@ -12,11 +11,12 @@ use lib.ListN.{length, getD, replicate, length-append, length-replicate}
 use lib.Dec.{T, ltb, eqb, ltb→lt, lt→ltb}
 use Rattle.lists.specs.Lists.{at, headOr}
 use Rattle.lists.specs.Tests.{equal?}
-use Rattle.lists.specs.Firsts.{Passing, NonePasses}
+use Rattle.lists.specs.Firsts.{Passing}
 use Rattle.lists.specs.Ends.{at-suc}
 use Rattle.lists.specs.Pigeonhole.{length-keep}
 use Rattle.lists.specs.Places.{at-left, at-right}
 use Rattle.lists.specs.Tallies.{firstOf, length-keep-append, first-is, first-none, is-first, none-first}
+use Rattle.lists.specs.Tallies.{first-at, none-at}
 use Rattle.lists.specs.Counts.{getD-zeros, tally, tally-length, tally-times}
 use Rattle.channel.specs.Channel.{Channel, highestNet, pinCount}
 use Rattle.channel.specs.Rows.{firstHigh}
@@ -37,28 +37,14 @@ pub first-high-at : (row : List ℕ) (i : ℕ) → i < length row → 511 < getD
     → ((k : ℕ) → k < i → getD row k 0 ≤ 511) → i + 1 ≡ firstHigh row
 unfolding firstHigh
 first-high-at row i inside here before =
-    sym (first-is (high row) (length row) (i + 1) (record {
-      holds = record { low = omega arith; high = omega arith; passes = rw add-one (high-at row i here) };
-      lowest = lowest;
-    }))
-  where
-    lowest : (q : ℕ) → Passing (high row) 1 (length row) q → i + 1 ≤ q
-    lowest zero p = let l = p .low in absurd (omega arith)
-    lowest (suc k) p =
-        elim (decLe (i + 1) (suc k)) [
-          | yes h ↦ h
-          | no h ↦
-              absurd (let b = before k (omega arith) in let o = at-high row k (p .passes) in omega arith)
-        ]
+    sym (first-at (high row) (length row) (λ k. 511 < getD row k 0) (λ k l. at-high row k) i inside (high-at row i here)
+    (λ k l h. let b = before k l in omega arith))
 
 pub no-first-high : (row : List ℕ) → ((k : ℕ) → k < length row → getD row k 0 ≤ 511) → 0 ≡ firstHigh row
 unfolding firstHigh headOr
-no-first-high row low = sym (ap (headOr 0) (first-none (high row) (length row) none))
-  where
-    none : NonePasses (high row) 1 (length row)
-    none zero p = let l = p .low in absurd (omega arith)
-    none (suc k) p =
-        let u = p .high in let b = low k (omega arith) in let o = at-high row k (p .passes) in absurd (omega arith)
+no-first-high row low =
+    sym (ap (headOr 0) (none-at (high row) (length row) (λ k. 511 < getD row k 0) (λ k l. at-high row k)
+    (λ k l h. let b = low k l in omega arith)))
 
 -- and where it says that there is none, there is none
 pub none-high : (row : List ℕ) → firstHigh row ≡ 0 → (k : ℕ) → k < length row → getD row k 0 ≤ 511

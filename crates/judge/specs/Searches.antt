@@ -1,10 +1,9 @@
 -- The three searches of the judge, place by place from 0: what each has seen so far, and that it finds the first of
 -- `shorts`, `opens` and `floating`.
-use Prim.Native.Nat.{ℕ, zero, suc, _+_, _≤_, _<_}
+use Prim.Native.Nat.{ℕ, zero, suc, _+_, _<_}
 use native.Mathlib.Omega.{arith}
-use native.Mathlib.Numerals.{add-one}
 use mathlib.Core.Path.{_≡_, refl, sym, _∙_, ap, subst}
-use mathlib.Core.List.{List, [], List·Memᴰ}
+use mathlib.Core.List.{List, List·Memᴰ}
 use mathlib.Core.Bool.{Bool, _&&_, not}
 use mathlib.Core.Logic.{_⊎_, ⊎-elim}
 use lib.ListN.{length, getD, set}
@@ -13,9 +12,8 @@ use lib.Dec.{T, ltb, eqb, ltb→lt, lt→ltb, eqb→eq, eqb-refl}
 use Rattle.lists.specs.Lists.{keep, anyOf, upTo, headOr, at, Lowest}
 use Rattle.lists.specs.Tests.{and-left, and-right, and-both, not-passes, not-fails, equal?}
 use Rattle.lists.specs.Members.{any→member, member→any, keep-member, kept, upTo-member, in-upTo}
-use Rattle.lists.specs.Firsts.{Passing}
 use Rattle.lists.specs.Places.{keep-keep}
-use Rattle.lists.specs.Tallies.{firstOf, first-is, first-none}
+use Rattle.lists.specs.Tallies.{first-at, none-at}
 use Rattle.grid.specs.Pieces.{Layout}
 use Rattle.channel.specs.Channel.{Channel, width, positions}
 use Rattle.channel.specs.Answers.{Escapes}
@@ -23,29 +21,6 @@ use Rattle.wiring.specs.Pins.{netOf, IsPin, pinAt}
 use Rattle.judge.specs.Finding.{pins, firstOfNet, shorts, opens, floating}
 use Rattle.judge.specs.PinPlaces.{position-net}
 use Rattle.judge.specs.FindingLaws.{first-of-net}
-
--- a test of the numbers 1 to n, where P is what it says, by places from 0
-module _ (f : ℕ → Bool) (n : ℕ) (P : ℕ → Type 0) (says : (i : ℕ) → i < n → T (f (suc i)) → P i) where
-  first-at : (i : ℕ) → i < n → T (f (suc i)) → ((k : ℕ) → k < i → P k → ⊥) → firstOf f n ≡ i + 1
-  first-at i l t before =
-      first-is f n (suc i) (record {
-        holds = record { low = omega arith; high = omega arith; passes = t };
-        lowest = below;
-      }) ∙ sym (add-one i)
-    where
-      below : (q : ℕ) → Passing f 1 n q → suc i ≤ q
-      below zero h = let low = h .low in absurd (omega arith)
-      below (suc k) h =
-          let high = h .high in
-          let out : k < i → ⊥ = λ m. before k m (says k (omega arith) (h .passes)) in
-          omega arith
-
-  none-at : ((k : ℕ) → k < n → P k → ⊥) → keep f (upTo n) ≡ []
-  none-at before = first-none f n below
-    where
-      below : (q : ℕ) → Passing f 1 n q → ⊥
-      below zero h = let low = h .low in omega arith
-      below (suc k) h = let high = h .high in before k (omega arith) (says k (omega arith) (h .passes))
 
 -- what holds before place i and there holds before the next
 next-place : (P : ℕ → Type 0) (i : ℕ) → ((k : ℕ) → k < i → P k) → P i → (k : ℕ) → k < i + 1 → P k

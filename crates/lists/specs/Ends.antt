@@ -1,7 +1,8 @@
 -- The first and the last of those of a range that pass a test: members, and the least and the greatest of them. And a
 -- second occurrence where a number does not stand just once, and none where it does.
-use Prim.Native.Nat.{ℕ, zero, suc, _-_, _≤_, _<_}
+use Prim.Native.Nat.{ℕ, zero, suc, _+_, _-_, _≤_, _<_}
 use native.Mathlib.Omega.{arith}
+use native.Mathlib.Numerals.{add-one}
 use mathlib.Core.Path.{_≡_, refl, sym, _∙_, ap, subst}
 use mathlib.Core.List.{List, [], _∷_, map, List·Memᴰ, List·Memᴰ·head, List·Memᴰ·tail, List·Memᴰ·cases-cons}
 use mathlib.Core.List.{List·Memᴰ·not-nil, Memᴰ·cast}
@@ -68,6 +69,9 @@ last-greatest (y ∷ (z ∷ zs)) d r {x} m =
 pub at-suc : (row : List ℕ) (i : ℕ) → at row (suc i) ≡ getD row i 0
 unfolding at
 at-suc row i = refl
+
+pub at-next : (row : List ℕ) (i : ℕ) → at row (i + 1) ≡ getD row i 0
+at-next row i = ap (at row) (add-one i) ∙ at-suc row i
 
 pub at-pred : (row : List ℕ) (k : ℕ) → 0 < k → at row k ≡ getD row (k - 1) 0
 at-pred row zero h = absurd (omega arith)
@@ -199,6 +203,22 @@ rises→ (x ∷ xs) t = (
   λ y m. ltb→lt x y (all→member (ltb x) (and-left (allOf (ltb x) xs) (rises xs) t) m),
   rises→ xs (and-right (allOf (ltb x) xs) (rises xs) t),
 )
+
+-- and it is `Rising` exactly if each number stands below its neighbour
+pub neighbours→rising : (xs : List ℕ) → ((i : ℕ) → suc i < length xs → getD xs i 0 < getD xs (suc i) 0) → Rising xs
+unfolding Rising headOr
+neighbours→rising [] h = tt
+neighbours→rising (x ∷ []) h = (λ y m. absurd (List·Memᴰ·not-nil m), tt)
+neighbours→rising (x ∷ (z ∷ zs)) h =
+    let rest = neighbours→rising (z ∷ zs) (λ i l. h (suc i) (omega arith)) in
+    let next = h 0 (omega arith) in
+    (λ y m. let l = head-least (z ∷ zs) 0 rest m in omega arith, rest)
+
+pub rising→neighbours : (xs : List ℕ) → Rising xs → (i : ℕ) → suc i < length xs → getD xs i 0 < getD xs (suc i) 0
+unfolding Rising
+rising→neighbours [] r i l = absurd (omega arith)
+rising→neighbours (x ∷ xs) r zero l = r .0 (getD xs 0 0) (getD-member xs 0 (omega arith))
+rising→neighbours (x ∷ xs) r (suc i) l = rising→neighbours xs (r .1) i (omega arith)
 
 -- a rising list repeats nothing
 pub rising-distinct : (xs : List ℕ) → Rising xs → Distinct xs

@@ -1,11 +1,13 @@
 -- The first of the numbers 1 to n that passes a test, as one number that is 0 if there is none; and how many are kept
 -- of two lists put end to end.
-use Prim.Native.Nat.{ℕ, zero, suc, _+_, _≤_}
+use Prim.Native.Nat.{ℕ, zero, suc, _+_, _≤_, _<_}
 use native.Mathlib.Omega.{arith}
-use mathlib.Core.Path.{_≡_, refl, _∙_, ap}
+use native.Mathlib.Numerals.{add-one}
+use mathlib.Core.Path.{_≡_, refl, sym, _∙_, ap}
 use mathlib.Core.List.{List, [], _∷_, _++_, List·Memᴰ, List·Memᴰ·head, List·Memᴰ·tail}
 use mathlib.Core.Bool.{Bool, true, false, cond}
 use lib.ListN.{length, getD, set, length-append}
+use lib.Dec.{T}
 use Rattle.lists.specs.Lists.{keep, upTo, headOr, Lowest}
 use Rattle.lists.specs.Firsts.{Passing, NonePasses, FirstKept, no-one, begins, first-kept}
 
@@ -45,6 +47,30 @@ module _ (f : ℕ → Bool) (n : ℕ) where
       go : {ps : List ℕ} → FirstKept f 1 n ps → headOr 0 ps ≡ 0 → NonePasses f 1 n
       go (no-one none) h = none
       go (begins q m) h = let l = m .holds .low in absurd (omega arith)
+
+-- a test of the numbers 1 to n, where P is what it says, by places from 0: a scan from the front stops at the first that
+-- passes, or finds none
+module _ (f : ℕ → Bool) (n : ℕ) (P : ℕ → Type 0) (says : (i : ℕ) → i < n → T (f (suc i)) → P i) where
+  pub first-at : (i : ℕ) → i < n → T (f (suc i)) → ((k : ℕ) → k < i → P k → ⊥) → firstOf f n ≡ i + 1
+  first-at i l t before =
+      first-is f n (suc i) (record {
+        holds = record { low = omega arith; high = omega arith; passes = t };
+        lowest = below;
+      }) ∙ sym (add-one i)
+    where
+      below : (q : ℕ) → Passing f 1 n q → suc i ≤ q
+      below zero h = let low = h .low in absurd (omega arith)
+      below (suc k) h =
+          let high = h .high in
+          let out : k < i → ⊥ = λ m. before k m (says k (omega arith) (h .passes)) in
+          omega arith
+
+  pub none-at : ((k : ℕ) → k < n → P k → ⊥) → keep f (upTo n) ≡ []
+  none-at before = first-none f n below
+    where
+      below : (q : ℕ) → Passing f 1 n q → ⊥
+      below zero h = let low = h .low in omega arith
+      below (suc k) h = let high = h .high in before k (omega arith) (says k (omega arith) (h .passes))
 
 module _ {A : Type 0} where
   -- two tests that agree on the members keep the same

@@ -8,6 +8,8 @@ use mathlib.Core.Logic.{_⊎_, inl, inr}
 use mathlib.Core.Option.{Option, none, some, Option·none-ne-some, Option·some-ne-none, Option·some-injective}
 use lib.Dec.{T}
 use lib.ListN.{getElem?}
+use Rattle.lists.specs.Lists.{keep, upTo, headOr}
+use Rattle.lists.specs.Tallies.{firstOf, first-none, none-first}
 use Rattle.refusal.specs.declared.Refusal.{Refusal}
 use Rattle.refusal.specs.Refusals.{refuseIf, refuseAtFirst, _or-else_, answered}
 
@@ -76,6 +78,19 @@ refuse-at-first-some r (p ∷ ps) s h = (p, refl, Option·some-injective (r p) s
 pub some-refuse-at-first : (r : ℕ → Refusal) (p : ℕ) (ps : List ℕ) → refuseAtFirst r (p ∷ ps) ≡ some (r p)
 unfolding refuseAtFirst
 some-refuse-at-first r p ps = refl
+
+-- a refusal at the first of the places that pass: silent if the first is 0, and at the first otherwise
+pub refuse-none : (r : ℕ → Refusal) (f : ℕ → Bool) (n : ℕ) → firstOf f n ≡ 0 → refuseAtFirst r (keep f (upTo n)) ≡ none
+refuse-none r f n e = none-refuse-at-first r (keep f (upTo n)) (first-none f n (none-first f n e))
+
+pub refuse-first : (r : ℕ → Refusal) (f : ℕ → Bool) (n : ℕ) → (firstOf f n ≡ 0 → ⊥)
+    → refuseAtFirst r (keep f (upTo n)) ≡ some (r (firstOf f n))
+unfolding headOr refuseAtFirst
+refuse-first r f n = go (keep f (upTo n))
+  where
+    go : (ps : List ℕ) → (headOr 0 ps ≡ 0 → ⊥) → refuseAtFirst r ps ≡ some (r (headOr 0 ps))
+    go [] h = absurd (h refl)
+    go (p ∷ ps) h = refl
 
 -- the answer
 pub answered-none : {A : Type 0} (refused : Refusal → A) (a : Option Refusal) (success : A) → a ≡ none

@@ -17,9 +17,11 @@ use Rattle.refusal.specs.declared.Refusal.the-variants.{
   BadField,
   WrongBoard,
   NoBlank,
+  BadTable,
+  NoStock,
 }
 
--- the column "No"; 02, Req 04: "Refusal 6 is no longer given"
+-- the column "No"; 02, Req 04: "Refusal 6 is no longer given"; Req 03: "15, bad table", "16, no stock"
 abbrev pub numberOf : Refusal → ℕ
 numberOf (ShortTray p) = 1
 numberOf (Garbled p) = 2
@@ -31,6 +33,8 @@ numberOf (Torn p) = 8
 numberOf (BadField p) = 9
 numberOf (WrongBoard p) = 10
 numberOf (NoBlank p) = 14
+numberOf (BadTable p) = 15
+numberOf (NoStock p) = 16
 
 -- the place that the column "Given when; place" names
 abbrev pub placeOf : Refusal → ℕ
@@ -44,6 +48,8 @@ placeOf (Torn p) = p
 placeOf (BadField p) = p
 placeOf (WrongBoard p) = p
 placeOf (NoBlank p) = p
+placeOf (BadTable p) = p
+placeOf (NoStock p) = p
 
 -- an answer in 01's numbers: the refusal's or fault's number and its place, or 0 and the values answered
 pub record Told : Type 0 where

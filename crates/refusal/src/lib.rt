@@ -36,6 +36,10 @@ pub enum Refusal {
     WrongBoard(usize),
     // 14: no stock blank has so many tracks; the tracks
     NoBlank(usize),
+    // 15: a table of blanks is bad; its first bad entry, from 1, or 0 if it has none or more than 64
+    BadTable(usize),
+    // 16: no entry of a table of blanks holds so many tracks; the tracks
+    NoStock(usize),
 }
 
 // The number of a refusal in the shop's table.
@@ -53,6 +57,8 @@ pub fn number_of(refusal: Refusal) -> u32
         Refusal::BadField(_) => 9,
         Refusal::WrongBoard(_) => 10,
         Refusal::NoBlank(_) => 14,
+        Refusal::BadTable(_) => 15,
+        Refusal::NoStock(_) => 16,
     }
 }
 
@@ -71,5 +77,7 @@ pub fn place_of(refusal: Refusal) -> usize
         Refusal::BadField(place) => place,
         Refusal::WrongBoard(place) => place,
         Refusal::NoBlank(place) => place,
+        Refusal::BadTable(place) => place,
+        Refusal::NoStock(place) => place,
     }
 }

@@ -21,6 +21,8 @@ use Rattle.boardfile.specs.Open.{fileLayout}
 use Rattle.judge.specs.Answers.{judgeRefusal, judgeAnswer, judgeTold}
 use Rattle.judge.specs.Promise.{ShortPin, OpenPin, FloatingPiece, Passable}
 use Rattle.blanks.specs.Stock.{blankAnswer, blankTold}
+use Rattle.blanks.specs.Laminate.{ownAnswer}
+use Rattle.blanks.specs.Promise.{OwnPromise}
 use Rattle.channel.specs.Parked.{ParkedBeside}
 use Rattle.promises.specs.Router.{NoLayout, Fewest, Bare}
 use Rattle.promises.specs.Bounds.{OneTrunkFloor, largerBound}
@@ -110,3 +112,9 @@ pub record BlankEntry (tracks r : ℕ) : Type 0 where
   pub answer : r ≡ entryNumber (blankTold (blankAnswer tracks))
   pub decoded : Decoded (blankTold (blankAnswer tracks)) r
   pub refused : (refusalIn r ≡ 14) ↔ (512 < tracks)
+
+-- Req 03 of 02, of the number r. Rules out: the last entry that holds the tracks (promise); 16 for a bad table (promise)
+pub record OwnBlankEntry (table : List ℕ) (tracks r : ℕ) : Type 0 where
+  pub answer : r ≡ entryNumber (blankTold (ownAnswer table tracks))
+  pub decoded : Decoded (blankTold (ownAnswer table tracks)) r
+  pub promise : OwnPromise table tracks (refusalIn r) (placeIn r)

@@ -2,13 +2,14 @@
 -- the function promises of its answer, the entry promises of the number.
 use Prim.Native.Nat.{ℕ, _+_, _*_, _≤_, _<_}
 use native.Mathlib.Omega.{arith}
-use mathlib.Core.Path.{_≡_, refl, sym, _∙_, ap, ap₂, subst}
+use mathlib.Core.Path.{_≡_, refl, sym, _∙_, ap, ap₂, subst, subst₂}
 use mathlib.Core.List.{List, [], _∷_}
 use mathlib.Core.Logic.{_↔_, Iff·trans}
 use mathlib.Core.Bool.{cond}
 use mathlib.Core.Option.{Option, none, some}
 use lib.ListN.{length, take}
 use lib.Dec.{eqb}
+use Rattle.lists.specs.Lists.{headOr}
 use Rattle.refusal.specs.Refusals.{toldValues}
 use Rattle.refusal.specs.TrayLaws.{refusal-numbered}
 use Rattle.refusal.specs.ToldLaws.{told-success}
@@ -40,9 +41,12 @@ use Rattle.judge.specs.Code.{Judged}
 use Rattle.judge.specs.OnBytes.{found-on-bytes}
 use Rattle.judge.specs.OnBytes.{fault-between}
 use Rattle.judge.specs.ToldLaws.{foundTold, unrefused-told, good-small, fault-small}
+use Rattle.blanks.specs.declared.BlankAnswer.{BlankAnswer}
 use Rattle.blanks.specs.declared.BlankAnswer.the-variants as blanks
 use Rattle.blanks.specs.Stock.{blankAnswer, blankTold}
-use Rattle.blanks.specs.ToldLaws.{fourteen-exactly, blank-small}
+use Rattle.blanks.specs.Promise.{OwnPromise}
+use Rattle.blanks.specs.Code.{valueTold, OwnDone}
+use Rattle.blanks.specs.ToldLaws.{fourteen-exactly, blank-small, own-small}
 use Rattle.promises.specs.Proved.{demand3}
 use Rattle.router.specs.declared.Routing.{Routing}
 use Rattle.router.specs.declared.RouteAnswer.{RouteAnswer}
@@ -56,7 +60,7 @@ use Rattle.router.specs.Code.{RowsDone}
 use Rattle.router.specs.ToldLaws.{routed-small}
 use Rattle.router.specs.Progress.{looksAnswer, ceilingAnswer, looksTold}
 use Rattle.router.specs.ProgressLaws.{looks-told, ceiling-told, ceiling-small}
-use Rattle.screen_api.specs.Numbers.{entryNumber, refusalIn, placeIn, tracksIn, piecesIn}
+use Rattle.screen_api.specs.Numbers.{packed, entryNumber, refusalIn, placeIn, tracksIn, piecesIn}
 use Rattle.screen_api.specs.NumberLaws.{
   value-number,
   pair-number,
@@ -79,6 +83,7 @@ use Rattle.screen_api.specs.Code.{
   FaultNumbers,
   JudgeEntry,
   BlankEntry,
+  OwnBlankEntry,
 }
 
 -- reading
@@ -330,3 +335,32 @@ module _ (t : ℕ) where
   pub blank-held : {b : ℕ} → blankAnswer t ≡ blanks.Blank b → BlankEntry t b
   unfolding blankTold
   blank-held q = blank-entry (rw q (value-number (omega (arith, blank-small t q))))
+
+one-value : (a : BlankAnswer) → packed (blankTold a .values) ≡ valueTold a
+unfolding packed blankTold headOr
+one-value (blanks.Blank b) = refl
+one-value (blanks.Refused r) = refl
+
+module _ {table : List ℕ} {t : ℕ} {a : BlankAnswer} (done : OwnDone table t a) (fits : t < 4294967296) where
+  value-fits : valueTold a < 4294967296
+  value-fits = let small = own-small table t in omega (arith, small, ap valueTold (done .answer))
+
+  -- the one value of an answer comes back
+  value-read : {r : ℕ} → r ≡ entryNumber (blankTold a) → placeIn r ≡ valueTold a
+  value-read e = let place = decoded e .place in omega (arith, one-value a, value-fits)
+
+  pub own-entry : {r : ℕ} → r ≡ entryNumber (blankTold a) → OwnBlankEntry table t r
+  own-entry {r} e =
+      let answer = e ∙ ap (λ x. entryNumber (blankTold x)) (done .answer) in
+      record {
+        answer = answer;
+        decoded = decoded answer;
+        promise = subst₂ (OwnPromise table t) (sym (decoded e .number)) (sym (value-read e)) (done .promise);
+      }
+
+  pub own-held : {b : ℕ} → a ≡ blanks.Blank b → OwnBlankEntry table t b
+  unfolding blankTold headOr
+  own-held {b} q =
+      let few = done .promise .chosen-exactly b .0 (rw q (refl, refl)) in
+      let range = few .0 .inRange b (few .1 .inTable) in
+      own-entry (rw q (value-number (omega arith)))

@@ -1,5 +1,5 @@
 -- What C reads in an entry's number is what was answered, and values that fit are their own number. Refusals have
--- numbers of at most 14, so that one with its place fits 64 bits.
+-- numbers of at most 16, so that one with its place fits 64 bits.
 use Prim.Native.Nat.{ℕ, _+_, _*_, _/_, _%_, _≤_, _<_}
 use native.Mathlib.Omega.{arith}
 use mathlib.Core.Path.{_≡_, sym, _∙_}
@@ -18,12 +18,14 @@ use Rattle.refusal.specs.declared.Refusal.the-variants.{
   BadField,
   WrongBoard,
   NoBlank,
+  BadTable,
+  NoStock,
 }
 use Rattle.refusal.specs.Refusals.{numberOf, Told, toldAt, toldValues, toldBy}
 use Rattle.refusal.specs.ToldLaws.{told-zero}
 use Rattle.screen_api.specs.Numbers.{packed, entryNumber, refusalIn, placeIn, tracksIn, piecesIn, Decoded}
 
-pub refusal-small : (r : Refusal) → numberOf r ≤ 14
+pub refusal-small : (r : Refusal) → numberOf r ≤ 16
 refusal-small (ShortTray p) = omega arith
 refusal-small (Garbled p) = omega arith
 refusal-small (TooWide p) = omega arith
@@ -34,6 +36,8 @@ refusal-small (Torn p) = omega arith
 refusal-small (BadField p) = omega arith
 refusal-small (WrongBoard p) = omega arith
 refusal-small (NoBlank p) = omega arith
+refusal-small (BadTable p) = omega arith
+refusal-small (NoStock p) = omega arith
 
 -- values that fit
 pub value-number : {v : ℕ} → v < 4294967296 → v ≡ entryNumber (toldValues (v ∷ []))

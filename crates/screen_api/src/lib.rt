@@ -8,7 +8,7 @@ ghost use Rattle.channel.specs.Channel.{rows};
 ghost use Rattle.judge.specs.Answers.{faultNumber, faultPlace};
 ghost use Rattle.screen_api.specs.Numbers.{entryNumber};
 ghost use Rattle.screen_api.specs.Code.{ReadEntry, BoundsEntry, RouteEntry, LooksEntry, CeilingEntry};
-ghost use Rattle.screen_api.specs.Code.{JudgeEntry, BlankEntry};
+ghost use Rattle.screen_api.specs.Code.{JudgeEntry, BlankEntry, OwnBlankEntry};
 use blanks::BlankAnswer;
 use channel::BoundsAnswer;
 use judge::Fault;
@@ -20,7 +20,7 @@ use router::RouteAnswer;
 
 // A number of the table and its place, in one number.
 fn numbered_at(number: u32, place: usize) -> u64
-    requires { ⌜ number ≤ 14 ⌝ }
+    requires { ⌜ number ≤ 16 ⌝ }
     ensures { λ r. ⌜ r ≡ entryNumber (toldAt number place) ⌝ }
 {
     let shown = if 4294967295 < place {
@@ -125,6 +125,17 @@ pub extern "C" fn cabjirt_blank(tracks: u32) -> u64
     ensures { λ r. ⌜ BlankEntry tracks r ⌝ }
 {
     match blanks::blank(tracks) {
+        BlankAnswer::Blank(held) => held as u64,
+        BlankAnswer::Refused(refusal) => refused(refusal),
+    }
+}
+
+// The smallest entry of a customer's own table that holds a number of tracks; or refusals 14 to 16.
+#[no_mangle]
+pub extern "C" fn cabjirt_own_blank(table: &[u32], tracks: u32) -> u64
+    ensures { λ r. ⌜ OwnBlankEntry (now (table .entry)) tracks r ⌝ }
+{
+    match blanks::own_blank(table, tracks) {
         BlankAnswer::Blank(held) => held as u64,
         BlankAnswer::Refused(refusal) => refused(refusal),
     }

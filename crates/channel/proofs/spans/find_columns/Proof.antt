@@ -7,7 +7,8 @@ use mathlib.Core.Path.{_≡_, sym, _∙_}
 use lib.ListN.{length, getD}
 use Rattle.channel.specs.Channel.{Channel, width, rows}
 use Rattle.channel.specs.Spans.{each512}
-use Rattle.channel.specs.EscapeLaws.{at-next, top-low, bot-low}
+use Rattle.lists.specs.Ends.{at-next}
+use Rattle.channel.specs.EscapeLaws.{top-low, bot-low}
 use Rattle.channel.specs.NoteLaws.{firstBy, lastBy, firsts-none, lasts-none, firsts-whole, lasts-whole}
 use Rattle.channel.specs.NoteLaws.{firsts-noted, lasts-noted}
 use Rattle.channel.proofs.spans.find_columns.Statement.{statement}

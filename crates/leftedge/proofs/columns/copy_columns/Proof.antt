@@ -7,7 +7,8 @@ use lib.ListN.{length, getD}
 use Rattle.lists.specs.Arrays.{numbered-at}
 use Rattle.channel.specs.Channel.{Channel, width, widest, rows, firstColumn, lastColumn}
 use Rattle.channel.specs.Laws.{columns-inside}
-use Rattle.channel.specs.EscapeLaws.{at-next, top-low, bot-low}
+use Rattle.lists.specs.Ends.{at-next}
+use Rattle.channel.specs.EscapeLaws.{top-low, bot-low}
 use Rattle.leftedge.specs.ColumnLaws.{CopiedTo, copied-none, copied-next, copied-due}
 use Rattle.leftedge.proofs.columns.copy_columns.Statement.{statement}
 use Rattle.leftedge.proofs.columns.copy_columns.Tie as tie
