@@ -73,15 +73,29 @@ pub fn answer_piece(bytes: &[u8]) -> bool
     true
 }
 
-fn ask_blank(tracks: u32) {
-    output::put_word(b"BLANK");
-    match blanks::blank(tracks) {
+fn put_blank(answer: BlankAnswer) {
+    match answer {
         BlankAnswer::Blank(held) => {
             output::put_field(0);
             output::put_field(held as u64);
             output::put_word(b"\n");
         }
         BlankAnswer::Refused(refusal) => output::put_refusal(refusal),
+    }
+}
+
+fn ask_blank(tracks: u32) {
+    output::put_word(b"BLANK");
+    put_blank(blanks::blank(tracks));
+}
+
+// A customer's own table, asked for each of a row of tracks.
+pub fn put_own(table: &[u32], tracks: &[u32]) {
+    let mut i: usize = 0;
+    while i < tracks.len() {
+        output::put_word(b"OWN");
+        put_blank(blanks::own_blank(table, tracks[i]));
+        i += 1;
     }
 }
 

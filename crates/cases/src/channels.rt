@@ -4,6 +4,7 @@ ghost use Prim.Native.Nat.{_*_, _≤_, min};
 ghost use lib.ListN.{length};
 ghost use Rattle.refusal.specs.Trays.{recordTray};
 ghost use Rattle.cases.specs.Cases.{rowsFit, rowsWhole, judgeWhole};
+use crate::boards;
 use crate::output;
 use crate::rows;
 use channel::BoundsAnswer;
@@ -139,13 +140,14 @@ fn put_judged(top: &[u32], bot: &[u32], board: &[u8]) {
     }
 }
 
-// Asks the question of a kind about two rows; `board` is for the judge.
+// Asks the question of a kind about two rows, which for 9 are a table of blanks and tracks; `board` is for the judge.
 fn ask(kind: u8, top: &[u32], bot: &[u32], board: &[u8]) {
     match kind {
         4 => put_check(top, bot),
         5 => put_bounds(top, bot),
         6 => put_fill(top, bot),
         8 => put_progress(top, bot),
+        9 => boards::put_own(top, bot),
         _ => put_judged(top, bot, board),
     }
 }
@@ -215,6 +217,12 @@ pub fn answer_looks(bytes: &[u8]) -> bool
     ensures { λ r. ⌜ r ≡ rowsWhole (now (bytes .entry)) ⌝ }
 {
     ask_sized(8, bytes, b"")
+}
+
+pub fn answer_own(bytes: &[u8]) -> bool
+    ensures { λ r. ⌜ r ≡ rowsWhole (now (bytes .entry)) ⌝ }
+{
+    ask_sized(9, bytes, b"")
 }
 
 // The length of the rows' bytes in two bytes, the rows, and a board.

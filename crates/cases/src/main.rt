@@ -21,6 +21,7 @@ fn answer(kind: u8, bytes: &[u8]) -> bool {
         6 => channels::answer_fill(bytes),
         7 => channels::answer_judge(bytes),
         8 => channels::answer_looks(bytes),
+        9 => channels::answer_own(bytes),
         _ => false,
     }
 }
