@@ -1,71 +1,34 @@
 -- The four ways in which the choice among a customer's own blanks ends, each by what it means. What is answered in each
 -- is what the definitions say, and meets the promise, since no two of them go together.
-use Prim.Native.Nat.{ℕ, suc, _≤_, _<_}
+use Prim.Native.Nat.{ℕ, _≤_, _<_}
 use native.Mathlib.Omega.{arith}
 use native.Mathlib.Decide.{decLe}
 use mathlib.Core.Path.{_≡_, refl, sym, _∙_, ap, subst}
 use mathlib.Core.List.{List}
 use mathlib.Core.Logic.{_⊎_, inl, inr, ⊎-elim}
-use mathlib.Core.Bool.{not}
-use mathlib.Core.Option.{none, some, Option·some-ne-none, Option·some-injective}
+use mathlib.Core.Option.{some}
 use lib.ListN.{length, getD}
-use lib.Dec.{T, ltb, ltb→lt, lt→ltb}
+use lib.Dec.{ltb, ltb→lt, lt→ltb}
 use borrow.Author.Tests.{le-ltb}
-use Rattle.lists.specs.Lists.{keep, upTo, headOr, lastOr, within, Lowest}
-use Rattle.lists.specs.Tests.{not-passes, not-fails, within→, →within, equal?}
-use Rattle.lists.specs.Firsts.{Passing, lowest-same}
-use Rattle.lists.specs.Tallies.{firstOf, first-is, is-first, none-first}
+use Rattle.lists.specs.Lists.{headOr, lastOr}
+use Rattle.lists.specs.Tests.{equal?}
+use Rattle.lists.specs.Tallies.{firstOf}
 use Rattle.lists.specs.Ends.{member-at, getD-member, last-member, last-greatest}
 use Rattle.refusal.specs.declared.Refusal.{Refusal}
 use Rattle.refusal.specs.declared.Refusal.the-variants.{NoBlank, BadTable, NoStock}
-use Rattle.refusal.specs.Refusals.{placeOf, refuseIf, refuseAtFirst, _or-else_}
+use Rattle.refusal.specs.Refusals.{refuseIf, _or-else_}
 use Rattle.refusal.specs.ChainLaws.{none-refuse-if, some-refuse-if, none-or-else-later, some-or-else}
-use Rattle.refusal.specs.ChainLaws.{refuse-none, refuse-first, answered-none, answered-some}
+use Rattle.refusal.specs.ChainLaws.{answered-none, answered-some}
 use Rattle.blanks.specs.declared.BlankAnswer.{BlankAnswer}
 use Rattle.blanks.specs.declared.BlankAnswer.the-variants.{Blank, Refused}
 use Rattle.blanks.specs.Stock.{smallestFor, noBlank, blankTold}
 use Rattle.blanks.specs.Laminate.{badEntry, badTable, noStock, ownRefusal, ownAnswer}
-use Rattle.blanks.specs.Promise.{Passes, BadAt, no-count, first-bad, Chosen, NoneHolds, OwnPromise}
+use Rattle.blanks.specs.Promise.{Passes, BadAt, no-count, Chosen, NoneHolds, OwnPromise}
 use Rattle.blanks.specs.Code.{FirstThatHolds, valueTold, OwnDone}
 use Rattle.blanks.specs.ChosenLaws.{smallest-holds, first-that-holds}
-use Rattle.blanks.specs.LaminateLaws.{→sound, passes→sound, sound→passes, test-exactly, none-bad}
+use Rattle.blanks.specs.TableLaws.{refused-bad, not-bad, good-bad, bad-once, found-bad, found-none}
 
 module _ (table : List ℕ) where
-  -- a count that is not 1 to 64
-  uncounted : (length table ≡ 0) ⊎ (64 < length table) → T (not (within 1 (length table) 64))
-  uncounted h =
-      not-passes (within 1 (length table) 64) (λ w. let r = within→ 1 (length table) 64 w in
-      ⊎-elim (λ e. omega arith) (λ l. omega arith) h)
-
-  past-count : (1 ≤ length table) × (length table ≤ 64) → badTable table ≡ refuseAtFirst BadTable (keep (badEntry table) (upTo (length table)))
-  unfolding badTable
-  past-count h =
-      none-or-else-later _ _ (none-refuse-if (not (within 1 (length table) 64)) (BadTable 0) (λ w.
-      not-fails (within 1 (length table) 64) w (→within 1 (length table) 64 (h .0) (h .1))))
-
-  -- the refusal names the place of a bad table, and is silent of one that passes
-  refused-bad : {p : ℕ} → BadAt table p → badTable table ≡ some (BadTable p)
-  unfolding badTable
-  refused-bad (no-count h e) =
-      some-or-else _ _ (BadTable _) (rw e (some-refuse-if (not (within 1 (length table) 64)) (BadTable 0) (uncounted h)))
-  refused-bad {p} (first-bad count lowest) =
-      let found = first-is (badEntry table) (length table) p (lowest-same (test-exactly table) p .1 lowest) in
-      let inside = lowest .holds .inTable in
-      past-count count ∙ (refuse-first BadTable (badEntry table) (length table) (λ z. omega arith)
-      ∙ ap (λ (k : ℕ). some (BadTable k)) found)
-
-  not-bad : Passes table → badTable table ≡ none
-  not-bad passes =
-      past-count (passes .count)
-      ∙ refuse-none BadTable (badEntry table) (length table) (sym (none-bad table (passes→sound table passes)))
-
-  -- so no place is bad in a table that passes, and no two are named in another
-  good-bad : Passes table → {p : ℕ} → BadAt table p → ⊥
-  good-bad passes b = Option·some-ne-none _ (sym (refused-bad b) ∙ not-bad passes)
-
-  bad-once : {p q : ℕ} → BadAt table p → BadAt table q → p ≡ q
-  bad-once b c = ap placeOf (Option·some-injective _ _ (sym (refused-bad b) ∙ refused-bad c))
-
   module _ (t : ℕ) where
     -- an entry that is chosen is just one, and the one that the definition names
     chosen-once : {b c : ℕ} → Chosen table t b → Chosen table t c → b ≡ c
@@ -75,6 +38,7 @@ module _ (table : List ℕ) where
     chosen-is : Passes table → {b : ℕ} → Chosen table t b → smallestFor table t ≡ b
     chosen-is passes {b} h = chosen-once (smallest-holds table t b (h .inTable) (h .holds) (passes .rising)) h
 
+    -- over 512 tracks; a bad table; no entry that holds them; and an entry chosen
     pub data Outcome : BlankAnswer → Type 0 where
       over : 512 < t → Outcome (Refused (NoBlank t))
       bad : {p : ℕ} → t ≤ 512 → BadAt table p → Outcome (Refused (BadTable p))
@@ -89,7 +53,7 @@ module _ (table : List ℕ) where
     past-over h = none-or-else-later _ _ (rw (le-ltb 512 t h))
 
     pub past-table : t ≤ 512 → Passes table → ownRefusal table t ≡ noStock table t
-    past-table h passes = past-over h ∙ none-or-else-later _ _ (not-bad passes)
+    past-table h passes = past-over h ∙ none-or-else-later _ _ (not-bad table passes)
 
     refused : {r : Refusal} → ownRefusal table t ≡ some r → Refused r ≡ ownAnswer table t
     unfolding ownAnswer
@@ -98,18 +62,19 @@ module _ (table : List ℕ) where
     answer : {a : BlankAnswer} → Outcome a → a ≡ ownAnswer table t
     unfolding ownAnswer ownRefusal noBlank noStock
     answer (over h) = refused (some-or-else _ _ (NoBlank t) (some-refuse-if (ltb 512 t) (NoBlank t) (lt→ltb 512 t h)))
-    answer (bad h b) = refused (past-over h ∙ some-or-else _ _ _ (refused-bad b))
+    answer (bad h b) = refused (past-over h ∙ some-or-else _ _ _ (refused-bad table b))
     answer (none-holds h passes below) =
         let some-entry = passes .count .0 in
         let last = below (lastOr 0 table) (last-member 0 (getD-member table 0 some-entry)) in
-        refused (past-table h passes ∙ some-refuse-if (ltb (lastOr 0 table) t) (NoStock t) (lt→ltb (lastOr 0 table) t last))
+        refused (past-table h passes
+        ∙ some-refuse-if (ltb (lastOr 0 table) t) (NoStock t) (lt→ltb (lastOr 0 table) t last))
     answer (held passes chosen) =
         let most = last-greatest table 0 (passes .rising) (chosen .inTable) in
         let holds = chosen .holds in
-        let silent = past-table (few-tracks passes chosen) passes
-        ∙ none-refuse-if (ltb (lastOr 0 table) t) (NoStock t) (λ w. let l = ltb→lt (lastOr 0 table) t w in omega arith) in
-        sym (answered-none Refused (ownRefusal table t) (Blank (smallestFor table t)) silent
-        ∙ ap Blank (chosen-is passes chosen))
+        let silent = none-refuse-if (ltb (lastOr 0 table) t) (NoStock t)
+        (λ w. let l = ltb→lt (lastOr 0 table) t w in omega arith) in
+        sym (answered-none Refused (ownRefusal table t) (Blank (smallestFor table t))
+        (past-table (few-tracks passes chosen) passes ∙ silent) ∙ ap Blank (chosen-is passes chosen))
 
     none-chosen : Passes table → NoneHolds table t → {b : ℕ} → Chosen table t b → ⊥
     none-chosen passes below chosen = let l = below _ (chosen .inTable) in let holds = chosen .holds in omega arith
@@ -131,17 +96,17 @@ module _ (table : List ℕ) where
     promise (bad h b) =
         record {
           over-exactly = (λ e. absurd (omega arith), λ k. absurd (omega arith));
-          bad-exactly = (λ e. (h, λ passes. good-bad passes b), λ k. refl);
-          bad-place = λ p. (λ e. (h, subst (BadAt table) (e .1) b), λ k. (refl, bad-once b (k .1)));
-          none-exactly = (λ e. absurd (omega arith), λ k. absurd (good-bad (k .1) b));
+          bad-exactly = (λ e. (h, λ passes. good-bad table passes b), λ k. refl);
+          bad-place = λ p. (λ e. (h, subst (BadAt table) (e .1) b), λ k. (refl, bad-once table b (k .1)));
+          none-exactly = (λ e. absurd (omega arith), λ k. absurd (good-bad table (k .1) b));
           tracks-named = λ e. absurd (⊎-elim (λ n. omega arith) (λ n. omega arith) e);
-          chosen-exactly = λ c. (λ e. absurd (let n = e .0 in omega arith), λ k. absurd (good-bad (k .0) b));
+          chosen-exactly = λ c. (λ e. absurd (let n = e .0 in omega arith), λ k. absurd (good-bad table (k .0) b));
         }
     promise (none-holds h passes below) =
         record {
           over-exactly = (λ e. absurd (omega arith), λ k. absurd (omega arith));
           bad-exactly = (λ e. absurd (omega arith), λ k. absurd (k .1 passes));
-          bad-place = λ p. (λ e. absurd (let n = e .0 in omega arith), λ k. absurd (good-bad passes (k .1)));
+          bad-place = λ p. (λ e. absurd (let n = e .0 in omega arith), λ k. absurd (good-bad table passes (k .1)));
           none-exactly = (λ e. (h, passes, below), λ k. refl);
           tracks-named = λ e. refl;
           chosen-exactly = λ b. (
@@ -154,27 +119,19 @@ module _ (table : List ℕ) where
         record {
           over-exactly = (λ e. absurd (omega arith), λ k. absurd (omega arith));
           bad-exactly = (λ e. absurd (omega arith), λ k. absurd (k .1 passes));
-          bad-place = λ p. (λ e. absurd (let n = e .0 in omega arith), λ k. absurd (good-bad passes (k .1)));
+          bad-place = λ p. (λ e. absurd (let n = e .0 in omega arith), λ k. absurd (good-bad table passes (k .1)));
           none-exactly = (λ e. absurd (omega arith), λ k. absurd (none-chosen passes (k .2) chosen));
           tracks-named = λ e. absurd (⊎-elim (λ n. omega arith) (λ n. omega arith) e);
-          chosen-exactly = λ b. (λ e. (passes, subst (Chosen table t) (e .1) chosen), λ k. (refl, chosen-once chosen (k .1)));
+          chosen-exactly = λ b. (
+            λ e. (passes, subst (Chosen table t) (e .1) chosen),
+            λ k. (refl, chosen-once chosen (k .1)),
+          );
         }
 
     pub done : {a : BlankAnswer} → Outcome a → OwnDone table t a
     done o = record { answer = answer o; promise = promise o }
 
-  -- what the search for a bad entry and that for one that holds the tracks have found
-  module _ (count : (1 ≤ length table) × (length table ≤ 64)) where
-    pub found-bad : {p : ℕ} → p ≡ firstOf (badEntry table) (length table) → (p ≡ 0 → ⊥) → BadAt table p
-    found-bad {p} e there =
-        first-bad count (lowest-same (test-exactly table) p .0 (subst (Lowest (Passing (badEntry table) 1 (length table)))
-        (sym e) (is-first (badEntry table) (length table) (λ z. there (e ∙ z)))))
-
-    pub found-none : 0 ≡ firstOf (badEntry table) (length table) → Passes table
-    found-none e =
-        sound→passes table count (λ i l. →sound table i (λ w. none-first (badEntry table) (length table) (sym e) (suc i)
-        (record { low = omega arith; high = omega arith; passes = w })))
-
+  -- what the search for an entry that holds the tracks has found
   pub found-held : {t i : ℕ} → Passes table → FirstThatHolds table t i → i < length table
       → Chosen table t (getD table i 0)
   found-held {t} {i} passes found l =
@@ -216,8 +173,8 @@ module _ (table : List ℕ) where
             | yes h ↦ elim (decLe (length table) 64) [
               | no k ↦ (Refused (BadTable 0), bad few (no-count (inr (omega arith)) refl))
               | yes k ↦
-                  ⊎-elim (λ e. passed few (found-none (h, k) (sym e)))
-                  (λ there. (Refused (BadTable _), bad few (found-bad (h, k) refl there)))
+                  ⊎-elim (λ e. passed few (found-none table (h, k) (sym e)))
+                  (λ there. (Refused (BadTable _), bad few (found-bad table (h, k) refl there)))
                   (equal? (firstOf (badEntry table) (length table)) 0)
             ]
           ]

@@ -16,7 +16,8 @@ use Rattle.blanks.specs.Laminate.{badEntry, noStock, ownRefusal, ownAnsw
 use Rattle.blanks.specs.Promise.{Passes, Chosen}
 use Rattle.blanks.specs.Code.{FirstThatHolds}
 use Rattle.blanks.specs.ChosenLaws.{smallest-holds}
-use Rattle.blanks.specs.OwnLaws.{past-table, found-none, found-held, done, over, held}
+use Rattle.blanks.specs.TableLaws.{found-none}
+use Rattle.blanks.specs.OwnLaws.{past-table, found-held, done, over, held}
 
 stock-length : length stock ≡ 12
 unfolding stock

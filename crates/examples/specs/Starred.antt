@@ -50,7 +50,7 @@ use Rattle.programs.specs.Programs.{withinLimit, ofPinList, ofFilled, listing, 
 use Rattle.programs.specs.Programs.{listingOutput, boardOutput, judgeOutput}
 
 -- two lists of numbers are equal, as a test
-abbrev same : List ℕ → List ℕ → Bool
+abbrev pub same : List ℕ → List ℕ → Bool
 same [] [] = true
 same [] (y ∷ ys) = false
 same (x ∷ xs) [] = false
@@ -62,7 +62,7 @@ sameLists [] (y ∷ ys) = false
 sameLists (x ∷ xs) [] = false
 sameLists (x ∷ xs) (y ∷ ys) = same x y && sameLists xs ys
 
-abbrev all : List Bool → Bool
+abbrev pub all : List Bool → Bool
 all [] = true
 all (b ∷ bs) = b && all bs
 

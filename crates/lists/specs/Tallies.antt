@@ -48,8 +48,8 @@ module _ (f : ℕ → Bool) (n : ℕ) where
       go (no-one none) h = none
       go (begins q m) h = let l = m .holds .low in absurd (omega arith)
 
--- a test of the numbers 1 to n, where P is what it says, by places from 0: a scan from the front stops at the first that
--- passes, or finds none
+-- a test of the numbers 1 to n, where P is what it says, by places from 0: a scan from the front stops at the first
+-- that passes, or finds none
 module _ (f : ℕ → Bool) (n : ℕ) (P : ℕ → Type 0) (says : (i : ℕ) → i < n → T (f (suc i)) → P i) where
   pub first-at : (i : ℕ) → i < n → T (f (suc i)) → ((k : ℕ) → k < i → P k → ⊥) → firstOf f n ≡ i + 1
   first-at i l t before =

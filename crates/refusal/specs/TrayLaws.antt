@@ -14,7 +14,8 @@ use Rattle.lists.specs.Members.{keep-member, kept}
 use Rattle.lists.specs.Ranges.{no-member→empty}
 use Rattle.refusal.specs.declared.Refusal.{Refusal}
 use Rattle.refusal.specs.declared.Refusal.the-variants.{ShortTray, Garbled, TooWide, Uneven, HighNet}
-use Rattle.refusal.specs.declared.Refusal.the-variants.{Tangled, Torn, BadField, WrongBoard, NoBlank, BadTable, NoStock}
+use Rattle.refusal.specs.declared.Refusal.the-variants.{Tangled, Torn, BadField, WrongBoard}
+use Rattle.refusal.specs.declared.Refusal.the-variants.{NoBlank, BadTable, NoStock}
 use Rattle.refusal.specs.Refusals.{numberOf}
 use Rattle.refusal.specs.ChainLaws.{refuse-at-first-none, none-refuse-at-first}
 use Rattle.refusal.specs.Trays.{Tray, shortTray}

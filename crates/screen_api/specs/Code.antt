@@ -113,7 +113,7 @@ pub record BlankEntry (tracks r : ℕ) : Type 0 where
   pub decoded : Decoded (blankTold (blankAnswer tracks)) r
   pub refused : (refusalIn r ≡ 14) ↔ (512 < tracks)
 
--- Req 03 of 02, of the number r. Rules out: the last entry that holds the tracks (promise); 16 for a bad table (promise)
+-- Req 03 of 02, of the number r. Rules out: the last entry that holds the tracks, and 16 told of a bad table (promise)
 pub record OwnBlankEntry (table : List ℕ) (tracks r : ℕ) : Type 0 where
   pub answer : r ≡ entryNumber (blankTold (ownAnswer table tracks))
   pub decoded : Decoded (blankTold (ownAnswer table tracks)) r

@@ -6,7 +6,8 @@ use mathlib.Core.Logic.{inl, inr, ⊎-elim}
 use borrow.Author.Needs.{needs}
 use borrow.Author.Tests.{ltb-true, ltb-false}
 use Rattle.blanks.specs.Promise.{Passes, no-count}
-use Rattle.blanks.specs.OwnLaws.{over, bad, none-holds, held, done, found-bad, found-none, found-held, found-short}
+use Rattle.blanks.specs.TableLaws.{found-bad, found-none}
+use Rattle.blanks.specs.OwnLaws.{over, bad, none-holds, held, done, found-held, found-short}
 use Rattle.blanks.proofs.laminate.own_blank.Statement.{statement}
 use Rattle.blanks.proofs.laminate.own_blank.Tie as tie
 

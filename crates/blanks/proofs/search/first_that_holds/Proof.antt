@@ -1,5 +1,5 @@
--- `first_that_holds` meets its contract. The loop's invariant: the first i entries of the table are below `tracks`. What
--- is left of the table falls.
+-- `first_that_holds` meets its contract. The loop's invariant: the first i entries of the table are below `tracks`.
+-- What is left of the table falls.
 use Prim.Native.Nat.{_-_, _≤_}
 use native.Mathlib.Omega.{arith}
 use borrow.Author.Count.{below-more}
