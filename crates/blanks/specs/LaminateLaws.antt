@@ -1,5 +1,5 @@
--- Which tables pass: the test of an entry and what it says; where no entry is bad the table rises, and the refusal of a
--- bad table names the first bad entry.
+-- The test of an entry and what it says: a table of 1 to 64 entries passes exactly if none is bad. And what a scan from
+-- the front of a table finds.
 use Prim.Native.Nat.{ℕ, zero, suc, _+_, _-_, _≤_, _<_}
 use native.Mathlib.Omega.{arith}
 use native.Mathlib.Decide.{decLe}
