@@ -59,7 +59,7 @@ def differences(questions):
         answer = batch.answered(channel.own_blank, table, tracks)
         words = broken(table, tracks, *answer)
         if words:
-            yield f"the independent program answers {answer}, and {words}", (table, tracks)
+            yield f"the independent program answers {answer}; broken: {words}", (table, tracks)
 
 
 def cases_of(questions):
@@ -71,9 +71,9 @@ def entry_differences(cases, program=batch.PROGRAM):
     for case, line in zip(cases, batch.answers([case.question for case in cases], program)):
         (table, _), (tracks, _) = case.inputs()[0], case.lent()
         answer = ANSWER.fullmatch(line)
-        words = broken(table, tracks, *map(int, answer.groups())) if answer else "this is no answer"
+        words = broken(table, tracks, *map(int, answer.groups())) if answer else "an answer is a number and a value"
         if words or line != case.due:
-            yield f"the entry answers '{line}', here '{case.due}'" + (f", and {words}" if words else ""), (table, tracks)
+            yield f"the entry answers '{line}', here '{case.due}'; broken: {words or 'nothing'}", (table, tracks)
 
 
 def stock_differences(program=batch.PROGRAM):
@@ -81,9 +81,9 @@ def stock_differences(program=batch.PROGRAM):
     stock, own = [[ask(tracks).question for tracks in STOCK_TRACKS]
                   for ask in (batch.blank, lambda tracks: batch.own_blank(channel.STOCK, tracks))]
     lines = batch.answers(stock + own, program)
-    for tracks, line, told in zip(STOCK_TRACKS, lines, lines[len(stock):]):
-        if line != told:
-            yield f"the stock is answered '{line}', and '{told}' as a table", (channel.STOCK, tracks)
+    for tracks, line, own_line in zip(STOCK_TRACKS, lines, lines[len(stock):]):
+        if line != own_line:
+            yield f"the stock is answered '{line}', and '{own_line}' as a table", (channel.STOCK, tracks)
 
 
 def compare(_):

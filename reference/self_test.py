@@ -170,6 +170,8 @@ def own_entry_faults(first_difference):
         for name, told in found.items():
             if (told is None) != (wrong == "NOTHING") or "no answer" in str(told):
                 yield f"the wrong entry {wrong} is not found by {name}, or a right one is called wrong: {told}"
+        if wrong == "ABOVE" and not list(own_checks.stock_differences(program)):
+            yield f"the wrong entry {wrong} is not found where the stock is the table"
 
 
 def seeing(name, seen):
@@ -292,5 +294,5 @@ def compare(first_difference, lacking):
     return faults[0] if faults else None, (
         "the form is as its states say, and looks as they are counted one by one; wrong answers of programs and"
         " entries, spoilt buffers, a wrong search, readers that get spaces or line ends wrong, records, copper, steps,"
-        " density and a judge that get parked pins wrong, wrong looks and ceilings, what gets own blanks wrong, and what"
-        " gets a board turned over wrong are found and shown")
+        " density and a judge that get parked pins wrong, wrong looks and ceilings, wrong choices of own blanks, and"
+        " what gets a board turned over wrong are found and shown")
