@@ -20,11 +20,13 @@ SLIPS = {  # what is wrong, and what of `own_blank` below is then other
     "no entries are a bad first one": {"none": 1},
     "the place counts from 0": {"first": 0},
     "the place is the last bad entry": {"told": max},
-    "the last entry that holds the tracks": {"chosen": max},
+    "the last entry that holds the tracks": {"chosen": lambda table, tracks, holding: holding[-1]},
+    "the first entry, if any holds the tracks": {"chosen": lambda table, tracks, holding: table[0]},
+    "the tracks themselves": {"chosen": lambda table, tracks, holding: tracks},
     "an entry does not hold as many tracks": {"holds": lambda entry, tracks: entry > tracks},
     "an entry holds a track more": {"holds": lambda entry, tracks: entry + 1 >= tracks},
     "no entry holds 0 tracks": {"holds": lambda entry, tracks: entry >= tracks > 0},
-    "the place of 16 is the last entry": {"out": lambda table, _: table[-1]},
+    "the place of 16 is the last entry": {"out": lambda table, tracks: table[-1]},
 }
 
 
@@ -33,8 +35,8 @@ def is_bad(table, i, least, most, above):
 
 
 def own_blank(table, tracks, order=(14, 15, 16), most_tracks=512, longest=64, none=0, first=1, least=1, most=512,
-              told=min, chosen=min, above=lambda entry, before: entry > before,
-              holds=lambda entry, tracks: entry >= tracks, out=lambda _, tracks: tracks):
+              told=min, above=lambda entry, before: entry > before, holds=lambda entry, tracks: entry >= tracks,
+              out=lambda table, tracks: tracks, chosen=lambda table, tracks, holding: min(holding)):
     """The choice by asking everything of every entry, as it should be where nothing is other."""
     bad = [i + first for i in range(len(table)) if is_bad(table, i, least, most, above)]
     bad = bad if 1 <= len(table) <= longest else [none]
@@ -46,7 +48,7 @@ def own_blank(table, tracks, order=(14, 15, 16), most_tracks=512, longest=64, no
             raise channel.Refused(15, told(bad))
         if number == 16 and not holding:
             raise channel.Refused(16, out(table, tracks))
-    return chosen(holding)
+    return chosen(table, tracks, holding)
 
 
 def program(**slip):
