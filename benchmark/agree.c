@@ -89,8 +89,10 @@ bool agree(unsigned long rounds)
         compare_all(name, &input, below(30) == 0);
         garble(&input);
         compare(name, READ, &input, false);
+        damage_table(&input);
+        compare(name, OWN_BLANK, &input, false);
     }
-    printf("%lu calls on the inputs below, with and without parked pins, and %lu random ones, %lu of them accepted: "
-           "%lu differ\n", calls, rounds, accepted, differing);
+    printf("%lu calls on the inputs below, with and without parked pins, and %lu random ones with tables of blanks, "
+           "%lu of them accepted: %lu differ\n", calls, rounds, accepted, differing);
     return differing == 0;
 }

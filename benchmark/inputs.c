@@ -112,6 +112,7 @@ void make_input(enum shape shape, size_t width, struct input *in)
         fill_file(in);
     if (shape == MIXED_FILE)
         shuffle_file(in);
+    stock_table(in);
 }
 
 bool measured_on(enum operation operation, enum shape shape)

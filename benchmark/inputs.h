@@ -1,4 +1,4 @@
-/* inputs.h: the channels and boards that are measured, and random ones. */
+/* inputs.h: the channels and boards that are measured, and random ones; tables of blanks. */
 #ifndef INPUTS_H
 #define INPUTS_H
 
@@ -13,7 +13,7 @@ extern const char *const shape_names[SHAPES];
 
 /* Makes an input of a shape on so many columns (example B has its own width). Its file is the board that the router
  * draws; the shapes that are boards alone repeat the fullest board's pieces up to 4,095, and the mixed one shuffles
- * them. */
+ * them. Its table is the stock. */
 void make_input(enum shape shape, size_t width, struct input *input);
 
 /* Writes the rows of an input as the text that a shape has: the padded one in columns of four, with a carriage return
@@ -35,12 +35,24 @@ void seed(uint64_t state);
  * there goes. */
 void park_pins(struct input *input, uint32_t count);
 
+/* The stock as a table of blanks, and the most tracks that a board has. */
+void stock_table(struct input *input);
+
+/* A random table of blanks that rises strictly within 1 to 512, one in nine or so with over 64 entries; and tracks to
+ * ask it for. */
+void random_table(struct input *input);
+
 /* A random channel with its text, sometimes one that is refused; its board is drawn if it can be routed, and then
- * damaged more often than not. More often than not the text has runs of spaces, or carriage returns where lines end. */
+ * damaged more often than not. More often than not the text has runs of spaces, or carriage returns where lines end.
+ * Its table is a random one. */
 void random_input(struct input *input);
 
 /* Changes or cuts the text of an input: spaces, carriage returns and tabs come where they belong and where they do
  * not. */
 void garble(struct input *input);
+
+/* Changes an entry of an input's table, doubles it or cuts the table there, or exchanges two; and draws the tracks
+ * anew. */
+void damage_table(struct input *input);
 
 #endif

@@ -6,7 +6,8 @@
 #include "channel.h"
 #include "plain.h"
 
-const char *const operation_names[OPERATIONS] = {"read", "bounds", "route", "judge", "looks", "ceiling"};
+const char *const operation_names[OPERATIONS] = {"read", "bounds", "route", "judge", "looks", "ceiling",
+                                                   "own-blank"};
 const char *const side_names[SIDES] = {"rattle", "c"};
 
 static const struct {
@@ -16,9 +17,10 @@ static const struct {
     uint64_t (*judge)(const uint32_t *, size_t, const uint32_t *, size_t, const uint8_t *, size_t, uint32_t *, size_t);
     uint64_t (*looks)(const uint32_t *, size_t, const uint32_t *, size_t);
     uint64_t (*ceiling)(const uint32_t *, size_t, const uint32_t *, size_t);
+    uint64_t (*own_blank)(const uint32_t *, size_t, uint32_t);
 } entries[SIDES] = {
-    {cabjirt_read, cabjirt_bounds, cabjirt_route, cabjirt_judge, cabjirt_looks, cabjirt_ceiling},
-    {plain_read, plain_bounds, plain_route, plain_judge, plain_looks, plain_ceiling},
+    {cabjirt_read, cabjirt_bounds, cabjirt_route, cabjirt_judge, cabjirt_looks, cabjirt_ceiling, cabjirt_own_blank},
+    {plain_read, plain_bounds, plain_route, plain_judge, plain_looks, plain_ceiling, plain_own_blank},
 };
 
 void lend(struct lent *lent)
@@ -45,7 +47,9 @@ uint64_t call(enum side side, enum operation operation, const struct input *in, 
                                    lent->scratch, lent->scratch_length);
     case LOOKS:
         return entries[side].looks(in->top, in->top_length, in->bot, in->bot_length);
-    default:
+    case CEILING:
         return entries[side].ceiling(in->top, in->top_length, in->bot, in->bot_length);
+    default:
+        return entries[side].own_blank(in->table, in->table_length, in->tracks);
     }
 }

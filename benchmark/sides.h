@@ -7,14 +7,15 @@
 
 enum { ROW = 512, RING = 1022, BOARD = 10240, SCRATCH = 10238 };
 
-/* The longest text and board file that an input has. */
-enum { TEXT_LIMIT = 65536, FILE_LIMIT = 4 + 4 * 4095 };
+/* The longest text and board file that an input has, and the most entries of a table. */
+enum { TEXT_LIMIT = 65536, FILE_LIMIT = 4 + 4 * 4095, TABLE_LIMIT = 72 };
 
-/* Looks and ceiling are compared and not measured: they are parts of routing. */
-enum operation { READ, BOUNDS, ROUTE, JUDGE, LOOKS, CEILING, OPERATIONS, MEASURED = LOOKS };
+/* Looks, ceiling and own blank are compared and not measured: the former are parts of routing, and a choice of a blank
+ * looks at 64 numbers at most. */
+enum operation { READ, BOUNDS, ROUTE, JUDGE, LOOKS, CEILING, OWN_BLANK, OPERATIONS, MEASURED = LOOKS };
 
-/* What an operation is given: a pin list as text, the same as rows, a board file. Rows over 512 are there to be
- * refused. */
+/* What an operation is given: a pin list as text, the same as rows, a board file, a table of blanks with the tracks
+ * wanted. Rows over 512 and tables over 64 are there to be refused. */
 struct input {
     uint8_t text[TEXT_LIMIT];
     size_t text_length;
@@ -22,6 +23,9 @@ struct input {
     size_t top_length, bot_length;
     uint8_t file[FILE_LIMIT];
     size_t file_length;
+    uint32_t table[TABLE_LIMIT];
+    size_t table_length;
+    uint32_t tracks;
 };
 
 /* What an operation is lent to write into, and how much of each. */

@@ -2,11 +2,12 @@
  *
  * Usage: batch < questions > lines. A question is, its numbers most significant byte first:
  *
- *     kind      1 byte: 0 read, 1 bounds, 2 route, 3 judge, 4 blank, 5 looks, 6 ceiling
+ *     kind      1 byte: 0 read, 1 bounds, 2 route, 3 judge, 4 blank, 5 looks, 6 ceiling, 7 own blank
  *     fill      1 byte: what the lent buffers hold before; if it is odd, a buffer of length 0 is lent as NULL
  *     lent      2 numbers of 4 bytes: the lengths of the buffers that the entry writes (read: TOP, BOT; route: ring,
- *               board; judge: scratch, and one that is not used; blank: its tracks, and one that is not used)
- *     lengths   3 numbers of 4 bytes: of TOP, of BOT, of the text or board file
+ *               board; judge: scratch, and one that is not used; blank and own blank: the tracks, and one that is not
+ *               used)
+ *     lengths   3 numbers of 4 bytes: of TOP (own blank: of the table), of BOT, of the text or board file
  *     data      the numbers of TOP and BOT, 4 bytes each, then the text or board file
  *
  * A line is the number and value of the answer, then for each buffer that the entry writes: its name; its front, whose
@@ -19,7 +20,7 @@
 
 #include "channel.h"
 
-enum { READ, BOUNDS, ROUTE, JUDGE, BLANK, LOOKS, CEILING };
+enum { READ, BOUNDS, ROUTE, JUDGE, BLANK, LOOKS, CEILING, OWN_BLANK };
 enum { LENT = 2, LENGTHS = 3, HEADER = 2 + 4 * (LENT + LENGTHS), GUARD = 64, LONGEST = 1 << 20 };
 
 struct question {
@@ -168,6 +169,9 @@ static void ask(const struct question *q)
         break;
     case CEILING:
         put_answer(cabjirt_ceiling(q->top, q->top_length, q->bot, q->bot_length));
+        break;
+    case OWN_BLANK:
+        put_answer(cabjirt_own_blank(q->top, q->top_length, q->lent[0]));
         break;
     default:
         fail("a question is of no kind");

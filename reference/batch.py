@@ -9,8 +9,8 @@ import channel
 ROOT = Path(__file__).resolve().parent.parent
 PROGRAM = ROOT / "target" / "batch"
 LIBRARY = ROOT / "target" / "staticlib" / "libscreen_api.a"
-READ, BOUNDS, ROUTE, JUDGE, BLANK, LOOKS, CEILING = range(7)
-NAMES = ("read", "bounds", "route", "judge", "blank", "looks", "ceiling")
+READ, BOUNDS, ROUTE, JUDGE, BLANK, LOOKS, CEILING, OWN_BLANK = range(8)
+NAMES = ("read", "bounds", "route", "judge", "blank", "looks", "ceiling", "own blank")
 WORKERS = 2  # processes that make cases
 HEADER = struct.Struct(">BB5I")
 
@@ -36,18 +36,24 @@ class Case:
     def kind(self):
         return self.question[0]
 
+    def lent(self):
+        """The lengths of the buffers lent; of an entry that chooses a blank, first the tracks."""
+        return HEADER.unpack_from(self.question)[2:4]
+
     def inputs(self):
-        """The rows, and the text or board file."""
+        """The rows, and the text or board file; a table of blanks is the first row."""
         *_, top, bot, count = HEADER.unpack_from(self.question)
         numbers = list(struct.unpack_from(f">{top + bot}I", self.question, HEADER.size))
         return (numbers[:top], numbers[top:]), self.question[len(self.question) - count:]
 
     def shown(self):
-        """The question for people: what is asked, the rows as a pin list, the bytes in hexadecimal."""
-        kind, fill, first, second = HEADER.unpack_from(self.question)[:4]
+        """The question for people: what is asked, the rows as a pin list or the table, the bytes in hexadecimal."""
+        kind, fill, first, second = *self.question[:2], *self.lent()
         (top, bot), data = self.inputs()
         lines = [f"{NAMES[kind]}, lent {first} and {second}, fill {fill}"]
-        if kind not in (READ, BLANK):
+        if kind == OWN_BLANK:
+            lines.append(joined("TABLE", listed(top)))
+        elif kind not in (READ, BLANK):
             lines += [joined("TOP", listed(top)), joined("BOT", listed(bot))]
         if kind in (READ, JUDGE):
             lines.append(f"{len(data)} bytes {data.hex()}")
@@ -76,13 +82,17 @@ def read(text, fill=0, top=channel.ROW, bot=channel.ROW):
     return Case(READ, due, fill, (top, bot), data=text)
 
 
+def answered(value_of, *arguments):
+    """0 and the value, or the number and place of a refusal or fault."""
+    try:
+        return 0, value_of(*arguments)
+    except channel.Refused as refusal:
+        return refusal.number, refusal.place
+
+
 def asked_of_rows(kind, value_of, top, bot, fill):
     """The case of an entry that takes rows alone."""
-    try:
-        answer = (0, value_of(top, bot))
-    except channel.Refused as refusal:
-        answer = (refusal.number, refusal.place)
-    return Case(kind, joined(*answer, "inputs kept"), fill, top=top, bot=bot)
+    return Case(kind, joined(*answered(value_of, top, bot), "inputs kept"), fill, top=top, bot=bot)
 
 
 def bounds(top, bot, fill=0):
@@ -113,19 +123,17 @@ def route(top, bot, fill=0, ring=channel.RING, board=channel.BOARD):
 
 
 def judge(top, bot, file, fill=0, scratch=channel.SCRATCH):
-    try:
-        answer = (0, channel.judge(top, bot, file, scratch))
-    except channel.Refused as refusal:
-        answer = (refusal.number, refusal.place)
+    answer = answered(channel.judge, top, bot, file, scratch)
     return Case(JUDGE, joined(*answer, "scratch kept inputs kept"), fill, (scratch, 0), top, bot, file)
 
 
 def blank(tracks):
-    try:
-        answer = (0, channel.blank(tracks))
-    except channel.Refused as refusal:
-        answer = (refusal.number, refusal.place)
-    return Case(BLANK, joined(*answer, "inputs kept"), lent=(tracks, 0))
+    return Case(BLANK, joined(*answered(channel.blank, tracks), "inputs kept"), lent=(tracks, 0))
+
+
+def own_blank(table, tracks, fill=0):
+    due = joined(*answered(channel.own_blank, table, tracks), "inputs kept")
+    return Case(OWN_BLANK, due, fill, (tracks, 0), table)
 
 
 def need(path):

@@ -9,9 +9,10 @@ from pathlib import Path
 import board_cases
 import channel
 import row_cases
+import table_cases
 import text_cases
 
-OPEN, PIECE, BLANK, READ, CHECK, BOUNDS, FILL, JUDGE, LOOKS = range(9)
+OPEN, PIECE, BLANK, READ, CHECK, BOUNDS, FILL, JUDGE, LOOKS, OWN_BLANK = range(10)
 
 
 def pair(number):
@@ -54,6 +55,11 @@ class Cases:
 
     def blank(self, tracks):
         self.add(BLANK, pair(tracks), self.told("BLANK", lambda: (channel.blank(tracks),)))
+
+    def own_blank(self, table, tracks):
+        """A customer's own table, asked for each number of a row of tracks; both travel as rows."""
+        lines = [self.told("OWN", lambda t=t: (channel.own_blank(table, t),)) for t in tracks]
+        self.add(OWN_BLANK, rows_data(table, tracks), *lines)
 
     def read(self, text):
         """Read into rows that hold 7777 everywhere: what is not filled must still hold it."""
@@ -110,6 +116,7 @@ def main(folder):
     board_cases.add_all(cases)
     text_cases.add_all(cases)
     row_cases.add_all(cases)
+    table_cases.add_all(cases)
     cases.input += bytes([OPEN]) + pair(5) + bytes(4)  # five bytes are announced, and four follow
     cases.lines.append("CUT")
     folder.joinpath("stdin").write_bytes(bytes(cases.input))

@@ -3,14 +3,17 @@ natural.
 
 Rows stay as they were handed over; each number in them is asked whether it is a net or parked. Nets are kept in
 dictionaries and sets, the form of a text is a regular expression, the chain is found by removing nets from the bottom
-up, the looks of a fill are summed from the tracks of its nets, and the judge floods grid points layer by layer. Every
-function answers the paper's numbers: a refusal is `Refused(number, place)`, raised or returned.
+up, the looks of a fill are summed from the tracks of its nets, the judge floods grid points layer by layer, and a table
+of blanks is compared with the set of its entries. Every function answers the paper's numbers: a refusal is
+`Refused(number, place)`, raised or returned.
 """
 import re
+from bisect import bisect_left
 
 ROW, RECORDS, RING, BOARD, SCRATCH = 512, 511, 1022, 10240, 10238
 HIGHEST_NET, WIDEST, LIMIT = 511, 512, 65536
 STOCK = (8, 12, 16, 24, 32, 48, 64, 96, 128, 192, 256, 512)
+MOST_TRACKS, MOST_ENTRIES = 512, 64  # of an entry of a customer's own table of blanks, and of such a table (Req 03)
 
 
 class Refused(Exception):
@@ -329,6 +332,26 @@ def blank(tracks):
         if tracks <= held:
             return held
     raise Refused(14, tracks)
+
+
+def is_rising(entries):
+    """Whether entries are 1 to 512 and rise strictly: then they are the set of such numbers among them, in order."""
+    return list(entries) == sorted({entry for entry in entries if 1 <= entry <= MOST_TRACKS})
+
+
+def own_blank(table, tracks):
+    """The smallest entry of a customer's own table that holds so many tracks (Req 03); or refusals 14 to 16."""
+    if tracks > MOST_TRACKS:
+        raise Refused(14, tracks)
+    if not 1 <= len(table) <= MOST_ENTRIES:
+        raise Refused(15, 0)
+    rising = max(length for length in range(len(table) + 1) if is_rising(table[:length]))
+    if rising < len(table):
+        raise Refused(15, rising + 1)
+    lower = bisect_left(table, tracks)  # how many entries are below the tracks
+    if lower == len(table):
+        raise Refused(16, tracks)
+    return table[lower]
 
 
 def line(word, *numbers):

@@ -1,6 +1,6 @@
 #!/usr/bin/env python3
-"""Compares the three programs and the C entries with channel.py on cases drawn from a seed, and the router with a
-search on small channels.
+"""Compares the three programs and the C entries with channel.py on cases drawn from a seed, the router with a search on
+small channels, and the choice of own blanks with the words of its request on small tables.
 
     python3 reference/compare.py [SEED]        runs the test of the comparison itself, then all parts
     python3 reference/compare.py --self-test   runs that test alone
@@ -18,15 +18,16 @@ sys.dont_write_bytecode = True  # the modules below leave nothing beside them
 import batch
 import entry_cases
 import exhaustive
+import own_checks
 import program_cases
 import self_test
 
 DEFAULT_SEED = "2026"
 PROGRAMS = ("listing", "board_writer", "board_judge")
-# No answer has number 6. The programs lend enough memory and have a blank for every channel, so 1 and 14 never show.
-# None is an output other than a refusal.
+# No answer has number 6. The programs lend enough memory, have a blank for every channel and take no other table, so 1
+# and 14 to 16 never show. None is an output other than a refusal.
 PROGRAM_NUMBERS = {None, 0, *range(2, 6), *range(7, 14)}
-ENTRY_NUMBERS = {*range(6), *range(7, 15)}
+ENTRY_NUMBERS = {*range(6), *range(7, 17)}
 
 
 def first_difference(cases, answers):
@@ -84,12 +85,13 @@ def entries(seed):
     features = sum((found for _, found in parts), Counter())
     parked = ", ".join(f"{name} {features[name]}" for name in entry_cases.PARKED)
     due = (entry_cases.GOOD + entry_cases.PARKED + entry_cases.READ + entry_cases.GARBLED + entry_cases.LOOKS
-           + entry_cases.CEILING + entry_cases.REFUSED)
+           + entry_cases.CEILING + entry_cases.OWN_BLANK + entry_cases.NO_OWN_BLANK + entry_cases.REFUSED)
     return difference or lacking(numbers, ENTRY_NUMBERS) or lacking(features, due), (
         f"{len(cases)} cases in one process ({kinds}); answers {counted(numbers)}; good boards"
         f" {having(features, entry_cases.GOOD)}; parked pins in {parked}; texts read"
         f" {having(features, entry_cases.READ)}; garbled {having(features, entry_cases.GARBLED)}; looks"
-        f" {having(features, entry_cases.LOOKS)}; ceilings {having(features, entry_cases.CEILING)}")
+        f" {having(features, entry_cases.LOOKS)}; ceilings {having(features, entry_cases.CEILING)}; own blanks"
+        f" {having(features, entry_cases.OWN_BLANK)}, and refused {having(features, entry_cases.NO_OWN_BLANK)}")
 
 
 def run(name, part, *arguments):
@@ -116,7 +118,8 @@ def main(arguments):
         return 0 if right else 1
     seed = arguments[0] if arguments else DEFAULT_SEED
     print(f"seed {seed}", flush=True)
-    parts = (("programs", programs), ("entries", entries), ("exhaustive", exhaustive.compare))
+    parts = (("programs", programs), ("entries", entries), ("exhaustive", exhaustive.compare),
+             ("own blanks", own_checks.compare))
     results = [run(name, part, seed) for name, part in parts]
     return 0 if all(results) else 1
 

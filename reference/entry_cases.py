@@ -8,13 +8,16 @@ import channel
 import piece_sets
 import random_boards
 import random_channels
+import random_tables
 import random_texts
 import row_cases
 import small_channels
+import table_cases
 import text_cases
 
 # What must be shown by some good board, some channel or board with parked pins, some text that is read, some text that
-# is garbled, some looks, and some ceiling; and the refusals that looks and ceiling must have.
+# is garbled, some looks, some ceiling, some entry chosen of a table of blanks, and some table that is refused; and the
+# refusals that looks and ceiling must have.
 GOOD = ("several trunks a net", "a tangled channel", "copper at an edge place without a pin",
         "copper on a parked pin", "a parked pin without copper")
 PARKED = ("a routed channel", "a channel of nothing else", "a refused ring", "a short")
@@ -24,6 +27,11 @@ GARBLED = ("a carriage return in the place", "one before the place", "a tab in t
 LOOKS = ("a ring and no track", "a ring above some tracks", "as many as the ceiling", "fewer than the ceiling",
          "parked pins")
 CEILING = ("no net that spans", "parked pins and no net that spans")
+OWN_BLANK = ("no tracks", "as many tracks as the entry holds", "the first entry of several", "an inner one",
+             "the last of several", "a table of one entry", "a table of 64")
+NO_OWN_BLANK = ("no entry", "over 64 entries", "a 0 in the place", "a number over 512 in the place",
+                "equal neighbours in the place", "a fall in the place", "tracks just above the last entry",
+                "over 512 tracks and a bad table")
 REFUSED = tuple(f"refusal {number} of {name}" for name in ("looks", "ceiling") for number in (3, 4, 5))
 SMALL_CHANNELS = [tuple(map(list, rows)) for rows in small_channels.shapes(2)]
 
@@ -38,6 +46,19 @@ def lent(rng, needed):
 def rows_cases(rows, fill=0):
     """The cases of the entries that take rows alone."""
     return batch.bounds(*rows, fill), batch.looks(*rows, fill), batch.ceiling(*rows, fill)
+
+
+def table_job(rng):
+    for _ in range(300):
+        table = random_tables.drawn(rng)
+        for _ in range(3):
+            yield batch.own_blank(table, random_tables.tracks(rng, table), rng.randrange(256))
+
+
+def fixed_table_job(_):
+    """Tables of blanks made by hand; one without entries is lent as NULL for each odd number of tracks."""
+    for table, tracks in table_cases.by_hand():
+        yield batch.own_blank(table, tracks, tracks % 256)
 
 
 def text_job(rng):
@@ -157,7 +178,7 @@ def fixed_job(_):
 
 
 JOBS = ((fixed_job, 1), (small_board_job, 1), (wide_job, 10), (maze_job, 8), (own_board_job, 8), (channel_job, 10),
-        (scatter_job, 6), (text_job, 12))
+        (scatter_job, 6), (text_job, 12), (fixed_table_job, 1), (table_job, 4))
 
 
 def jobs(seed):
@@ -181,6 +202,8 @@ def features(case):
         yield from text_features(case)
     if case.kind() in (batch.LOOKS, batch.CEILING):
         yield from looks_features(case)
+    if case.kind() == batch.OWN_BLANK:
+        yield from own_blank_features(case)
 
 
 def good_features(case):
@@ -244,4 +267,21 @@ def looks_features(case):
     else:
         tracks, _, left = channel.filled(*rows)
         names, shown = LOOKS, (left and not tracks, left and tracks, 0 < value == ceiling, value < ceiling, parked)
+    yield from (name for name, seen in zip(names, shown) if seen)
+
+
+def own_blank_features(case):
+    """What the choice from a table of blanks shows, or its refusal."""
+    ((table, _), _), (tracks, _) = case.inputs(), case.lent()
+    number, place, last = case.number(), case.place(), len(table) - 1
+    if number == 0:
+        at = table.index(place)
+        names, shown = OWN_BLANK, (tracks == 0, tracks == place, at == 0 < last, 0 < at < last, at == last > 0,
+                                   last == 0, last == 63)
+    else:
+        before, entry = [0, *table][place - 1:place + 1] if number == 15 and place else (0, 1)
+        names, shown = NO_OWN_BLANK, (number == 15 and not table, number == 15 and len(table) > 64, entry == 0,
+                                      entry > 512, 0 < entry == before, 0 < entry < before,
+                                      number == 16 and tracks == table[-1] + 1,
+                                      number == 14 and not channel.is_rising(table))
     yield from (name for name, seen in zip(names, shown) if seen)

@@ -10,12 +10,14 @@ import exhaustive
 import form_checks
 import layout_search
 import looks_checks
+import own_checks
 import parked_checks
 import program_cases
 import random_boards
 import small_channels
 import text_cases
 import turned_checks
+import wrong_own
 
 ROWS = ([0, 1, 2, 3], [1, 2, 0, 3])
 PINS = "TOP 0 1 2 3\nBOT 1 2 0 3"
@@ -27,6 +29,9 @@ WRONG_PARKED = {"BLOCKS": ("channel_job",), "DRAWS": ("channel_job",), "COUNTS":
 WRONG_ROUTERS = ("BLOCKS", "DRAWS")
 # The wrong entries of wrong_looks.c: the cases of channel_job tell each, and so do small channels.
 WRONG_LOOKS = ("LAST", "PLACED", "STRAIGHT", "PARKED", "SQUARE")
+# The wrong entries of wrong_own.c: the cases of both jobs with tables tell each, and so do the request's words.
+WRONG_OWN = ("EQUAL", "FALLING", "ZERO", "HIGH", "CUT", "CUT_TRACKS", "LONG", "SHORT", "NONE", "FROM_0", "LATER",
+             "LARGEST", "ABOVE", "BAD_FIRST", "BARE_FIRST", "LAST", "NO_TRACKS")
 # Forms that get Req 01 wrong: what they take before a number, and at the end of a line.
 WRONG_FORMS = {
     "no runs of spaces": (b" ", rb"\r?\n"), "tabs": (rb"[ \t]+", rb"\r?\n"), "no carriage return": (b" +", rb"\n"),
@@ -58,13 +63,14 @@ def program_faults(first_difference):
 
 def entry_questions():
     return [batch.read(text_cases.GOOD), batch.bounds(*ROWS), batch.route(*ROWS), batch.judge(*ROWS, FILE),
-            batch.blank(9), batch.looks(*ROWS), batch.ceiling(*ROWS), batch.route([1, 2], [2, 1])]
+            batch.blank(9), batch.looks(*ROWS), batch.ceiling(*ROWS), batch.own_blank([8, 12], 9),
+            batch.route([1, 2], [2, 1])]
 
 
 def entry_faults(first_difference):
     cases = entry_questions()
     shown = [case.shown() for case in cases]
-    if any(PINS not in shown[i] for i in (1, 2, 3, 5, 6)) or FILE.hex() not in shown[3]:
+    if any(PINS not in shown[i] for i in (1, 2, 3, 5, 6)) or FILE.hex() not in shown[3] or "8 12" not in shown[7]:
         yield "an entry's input is not shown"
     yield from wrong_dues(cases, batch.answers([case.question for case in cases]), first_difference)
     missing = batch.answers([cases[0].question, b"\x09" + bytes(batch.HEADER.size - 1), cases[1].question])
@@ -78,8 +84,8 @@ def buffer_faults():
     batch.build(batch.ROOT / "reference" / "wrong_entries.c", program)
     due = ["0 1 top 0 kept bot 0 changed 2048 inputs kept", "0 0 inputs changed",
            "7 1 ring 1 2 changed 8 board changed -1 inputs kept", "0 2 scratch changed 40952 inputs kept",
-           "14 9 inputs kept", "0 1 inputs changed", "0 3 inputs changed"]
-    for line, wanted in zip(batch.answers([case.question for case in entry_questions()[:7]], program), due):
+           "14 9 inputs kept", "0 1 inputs changed", "0 3 inputs changed", "16 9 inputs changed"]
+    for line, wanted in zip(batch.answers([case.question for case in entry_questions()[:8]], program), due):
         if line != wanted:
             yield f"a spoilt byte is told as '{line}', due '{wanted}'"
 
@@ -138,6 +144,34 @@ def looks_entry_faults(first_difference):
             yield f"the wrong entry {wrong} is not found on small channels"
         if wrong == "PARKED" and not any("removed" in fault for fault in found):
             yield f"the wrong entry {wrong} is not found where the parked pins are removed"
+
+
+def own_faults():
+    """Programs that get a customer's own blanks wrong, by the request's words."""
+    questions = own_checks.asked(2)
+    with wrong_own.program():
+        if list(own_checks.differences(questions)):
+            yield "a right choice from a table of blanks is called wrong"
+    for name, slip in wrong_own.SLIPS.items():
+        with wrong_own.program(**slip):
+            if not any(own_checks.differences(questions)):
+                yield f"a program that gets own blanks wrong is not found: {name}"
+
+
+def own_entry_faults(first_difference):
+    """Entries that get them wrong, on cases made by hand, on cases as they are drawn, and by the request's words."""
+    asked, program = own_checks.cases_of(own_checks.asked(2)), batch.PROGRAM.with_name("batch_own")
+    jobs = {job: entry_cases.made(("self-test", job, 0))[0] for job in ("fixed_table_job", "table_job")}
+    for wrong in ("NOTHING", *WRONG_OWN):
+        batch.build(program=program, source="wrong_own.c", flags=[f"-DWRONG={wrong}"])
+        found = {"the request's words": next(own_checks.entry_differences(asked, program), None)}
+        for job, cases in jobs.items():
+            found[job] = first_difference(cases, batch.answers([case.question for case in cases], program))
+        for name, told in found.items():
+            if (told is None) != (wrong == "NOTHING") or "no answer" in str(told):
+                yield f"the wrong entry {wrong} is not found by {name}, or a right one is called wrong: {told}"
+        if wrong == "ABOVE" and not list(own_checks.stock_differences(program)):
+            yield f"the wrong entry {wrong} is not found where the stock is the table"
 
 
 def seeing(name, seen):
@@ -253,12 +287,12 @@ def compare(first_difference, lacking):
     faults = [*form_checks.faults(), *looks_checks.faults(), *program_faults(first_difference),
               *entry_faults(first_difference), *buffer_faults(), *search_faults(),
               *parked_entry_faults(first_difference), *looks_entry_faults(first_difference),
-              *turned_faults(), *turned_entry_faults(), *parked_record_faults(first_difference),
-              *reader_faults(first_difference)]
+              *own_faults(), *own_entry_faults(first_difference), *turned_faults(), *turned_entry_faults(),
+              *parked_record_faults(first_difference), *reader_faults(first_difference)]
     if lacking({1, 2}, {1, 2, 3}) is None or lacking({1, 2}, {1, 2}):
         faults.append("a number that is never answered is not told")
     return faults[0] if faults else None, (
         "the form is as its states say, and looks as they are counted one by one; wrong answers of programs and"
         " entries, spoilt buffers, a wrong search, readers that get spaces or line ends wrong, records, copper, steps,"
-        " density and a judge that get parked pins wrong, wrong looks and ceilings, and what gets a board turned over"
-        " wrong are found and shown")
+        " density and a judge that get parked pins wrong, wrong looks and ceilings, wrong choices of own blanks, and"
+        " what gets a board turned over wrong are found and shown")

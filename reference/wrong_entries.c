@@ -65,3 +65,10 @@ uint64_t cabjirt_ceiling(const uint32_t *top, size_t top_length, const uint32_t 
     spoil((uint32_t *)top, (ptrdiff_t)(top_length * sizeof *top) - 1);
     return told(0, 3);
 }
+
+/* A changed table. */
+uint64_t cabjirt_own_blank(const uint32_t *table, size_t table_length, uint32_t tracks)
+{
+    spoil((uint32_t *)table, (ptrdiff_t)(table_length * sizeof *table) - 1);
+    return told(16, tracks);
+}
