@@ -233,7 +233,7 @@ static void say_stray(struct order *order, const char *path, const uint8_t *text
     char words[STRAY_WORDS];
     size_t column, line = line_at(text, length, stray, &column);
     laminate_stray_words(text, length, stray, words);
-    say(order, "not loaded: %s at line %zu, column %zu of %s does not belong in a table", words, line, column, path);
+    say(order, "not loaded: line %zu, column %zu has %s; %s is no table", line, column, words, path);
 }
 
 enum outcome order_load_laminate(struct order *order, const char *path)

@@ -43,7 +43,7 @@ void laminate_stray_words(const uint8_t *text, size_t length, size_t stray, char
     if (is_leading_zero(text, length, stray))
         name = "a leading zero";
     else if (byte == '\r')
-        name = "a carriage return without a line feed";
+        name = "a lone carriage return";
     else if (byte == '\t')
         name = "a tab";
     else if (length - stray >= sizeof byte_order_mark && memcmp(text + stray, byte_order_mark, 3) == 0)

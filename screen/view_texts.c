@@ -60,8 +60,8 @@ static int put_fault(const struct order *order, const struct board_view *view, i
     return paint_lines(y, LINE_RULER, 0, text, STYLE_PLAIN);
 }
 
-/* Why a laminate that is loaded is refused, and what to do; then its name, cut at the window's edge: as far as there are
- * lines. Answers the line after it. */
+/* Why a laminate is refused, and what to do; then its name, cut at the window's edge: as far as there are lines.
+ * Answers the line after it. */
 static int put_own(const struct order *order, int y, int end)
 {
     char text[MESSAGE_MOST], remedy[MESSAGE_MOST];
