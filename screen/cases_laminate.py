@@ -105,7 +105,7 @@ def refused(s, folder):
         check(f"{what}: the list is good, the table is not", [s.grid.cells[y][0][1] for y in (VERDICT, VERDICT + 1)],
               [GOOD, BAD])
         s.expect_lines(f"{what}: drawing", DRAWING, drawing(B, written(B), PITCH)[1:])
-    s.expect_line("no stock: what to do", VERDICT + 2, "What to do: give a table whose last entry is at least 5.")
+    s.expect_line("no stock: what to do", VERDICT + 2, explained(16, 5)[1])
     s.type(SAVE + "b.board" + ENTER)
     expect_message(s, "the board is saved", "saved 124 bytes as b.board")
     check("the board's file", (folder / "b.board").read_bytes(), written(B))

@@ -82,7 +82,7 @@ bool order_view(const struct order *order, struct board_view *view)
 }
 
 /* "word: meaning (where)"; a meaning that has the word needs it no second time. */
-static void say_meaning(uint32_t number, const struct finding *finding, char meaning[MEANING_MOST])
+static void meaning_words(uint32_t number, const struct finding *finding, char meaning[MEANING_MOST])
 {
     const char *word = refusal_word(number), *where = finding->where;
     bool said = strstr(finding->meaning, word) != NULL;
@@ -90,7 +90,7 @@ static void say_meaning(uint32_t number, const struct finding *finding, char mea
              *where ? " (" : "", where, *where ? ")" : "");
 }
 
-static void say_remedy(const struct finding *finding, char remedy[MESSAGE_MOST])
+static void remedy_words(const struct finding *finding, char remedy[MESSAGE_MOST])
 {
     remedy[0] = '\0';
     if (finding->remedy[0] != '\0')
@@ -98,7 +98,7 @@ static void say_remedy(const struct finding *finding, char remedy[MESSAGE_MOST])
 }
 
 /* The entry or the refusal of a laminate, as it stands after the blank; or nothing. */
-static void say_own(const struct own_blank *own, char words[WORDS_MOST])
+static void own_words(const struct own_blank *own, char words[WORDS_MOST])
 {
     words[0] = '\0';
     if (own->asked && own->verdict.refused)
@@ -112,9 +112,9 @@ void order_summary(const struct order *order, char summary[MESSAGE_MOST])
     const struct answer *answer = &order->answer;
     const struct verdict *verdict = order_verdict(order);
     char meaning[MEANING_MOST], own[WORDS_MOST];
-    say_own(&order->own, own);
+    own_words(&order->own, own);
     if (verdict->refused) {
-        say_meaning(verdict->number, &order->finding, meaning);
+        meaning_words(verdict->number, &order->finding, meaning);
         snprintf(summary, MESSAGE_MOST, "REFUSED %u %u  %s", verdict->number, verdict->place, meaning);
     } else if (order->judged.shown)
         snprintf(summary, MESSAGE_MOST, "GOOD %u  the board is good, on %u tracks", order->judged.tracks,
@@ -126,7 +126,7 @@ void order_summary(const struct order *order, char summary[MESSAGE_MOST])
 
 void order_remedy(const struct order *order, char remedy[MESSAGE_MOST])
 {
-    say_remedy(&order->finding, remedy);
+    remedy_words(&order->finding, remedy);
 }
 
 bool order_own_refusal(const struct order *order, char meaning[MESSAGE_MOST], char remedy[MESSAGE_MOST])
@@ -134,8 +134,8 @@ bool order_own_refusal(const struct order *order, char meaning[MESSAGE_MOST], ch
     const struct own_blank *own = &order->own;
     if (order->judged.shown || !own->verdict.refused)
         return false;
-    say_meaning(own->verdict.number, &own->finding, meaning);
-    say_remedy(&own->finding, remedy);
+    meaning_words(own->verdict.number, &own->finding, meaning);
+    remedy_words(&own->finding, remedy);
     return true;
 }
 
