@@ -30,7 +30,6 @@ SMALLEST = 14, 40
 
 def shown(s):
     """All cells with their styles, but for the message line."""
-    s.quiet()
     return [list(line) for y, line in enumerate(s.grid.cells) if y != MESSAGE]
 
 
@@ -43,6 +42,7 @@ def both_keys(s, folder):
     (folder / "own").write_bytes(b" 1 2\r\n\n3   6\n16\r\n")
     typed(s, A)
     s.expect_line("no laminate", VERDICT, summary(A))
+    s.quiet()
     before = shown(s)
     for key in (LAMINATE, CONTROL_B):
         s.type(key)
@@ -61,9 +61,10 @@ def both_keys(s, folder):
         expect_message(s, "dropped: told", "dropped the laminate own")
         s.type(END)
         expect_message(s, "the message goes", "")
-        check("dropped: the screen is as it was", shown(s), before)
+        s.expect("dropped: the screen is as it was", lambda: shown(s), before)
     bells = s.grid.bells
     s.type(LAMINATE + ENTER + CONTROL_B + ESCAPE)
+    s.quiet()
     expect_message(s, "none to drop: no message", "")
     check("none to drop: as it was, without a bell", (shown(s), s.grid.bells), (before, bells))
 
@@ -151,12 +152,13 @@ def elsewhere(s, folder):
         typed(s, A)
         s.type(JUDGE + name + ENTER)
         s.expect_start(f"{name}: judged", VERDICT, verdict)
+        s.quiet()
         judged = shown(s)
-        for table in (REFUSED["a falling entry"], [4, 512]):
+        for table in (REFUSED["a falling entry"], [4, 9, 512]):
             load_laminate(s, folder, table)
-            check(f"{name}: the board stays, and nothing else is shown", shown(s), judged)
+            s.expect(f"{name}: the board stays, and nothing else is shown", lambda due=judged: shown(s) == due, True)
         s.type(ESCAPE)
-        expect_text(s, f"{name}: the list's own board", text_lines(A, [4, 512], "own"))
+        expect_text(s, f"{name}: the list's own board", text_lines(A, [4, 9, 512], "own"))
 
 
 def names(s, folder):
@@ -168,8 +170,9 @@ def names(s, folder):
     s.expect_line("completed", MESSAGE, f"{OTHER} laminates/mill.txt")
     s.type(ENTER)
     expect_text(s, "the completed name", text_lines(A, [4, 9], "laminates/mill.txt"))
-    s.type(LAMINATE + paste("own\r\n") + ENTER)
-    expect_message(s, "a pasted name", "loaded own (2 entries)")
+    (folder / "pasted").write_bytes(b"7")
+    s.type(LAMINATE + paste("pasted\r\n") + ENTER)
+    expect_message(s, "a pasted name", "loaded pasted (1 entry)")
     for length in (53, 54, 200):
         name = f"n{length}".ljust(length, "n")
         give(s, folder, OWN, name)
