@@ -79,6 +79,11 @@ size_t answer_board_length(const struct answer *answer)
     return 4 + 4 * (size_t)answer->pieces;
 }
 
+struct verdict answer_own_blank(const struct answer *answer, const uint32_t *table, size_t count, uint32_t *entry)
+{
+    return verdict_of(cabjirt_own_blank(table, count, answer->tracks), entry);
+}
+
 struct verdict answer_text(const uint8_t *text, size_t length)
 {
     uint32_t rows[ROWS][CABJIRT_ROW], width;

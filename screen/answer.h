@@ -33,6 +33,10 @@ bool answer_has_rows(const struct answer *answer);
 /* The bytes of the board file of a list that was not refused. */
 size_t answer_board_length(const struct answer *answer);
 
+/* Chooses the entry of a customer's own table on which the board of a list that was not refused goes. The table, of any
+ * length and numbers, is checked at each choice. */
+struct verdict answer_own_blank(const struct answer *answer, const uint32_t *table, size_t count, uint32_t *entry);
+
 /* Reads a text that two rows cannot show, which is none of the form, for the place where it leaves it. */
 struct verdict answer_text(const uint8_t *text, size_t length);
 

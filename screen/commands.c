@@ -4,21 +4,42 @@
 #include <stdio.h>
 #include <string.h>
 
+enum { MEANING_MOST = 3 * WORDS_MOST }; /* a refusal's word, meaning and place in the rows */
+
+/* File names may have anything in them. */
+static void hide_controls(char *text)
+{
+    for (; *text != '\0'; text++)
+        if ((unsigned char)*text < 0x20 || *text == 0x7F)
+            *text = '?';
+}
+
 static void say(struct order *order, const char *format, ...)
 {
     va_list values;
     va_start(values, format);
     vsnprintf(order->message, sizeof order->message, format, values);
     va_end(values);
-    for (char *c = order->message; *c != '\0'; c++) /* file names may have anything in them */
-        if ((unsigned char)*c < 0x20 || *c == 0x7F)
-            *c = '?';
+    hide_controls(order->message);
+}
+
+/* Chooses from the laminate anew: after every change of it, and of the list's answer. */
+static void choose_own(struct order *order)
+{
+    struct own_blank *own = &order->own;
+    const struct laminate *laminate = &order->laminate;
+    own->asked = laminate->loaded && !order->answer.verdict.refused;
+    own->verdict = (struct verdict){false, 0, 0};
+    if (own->asked)
+        own->verdict = answer_own_blank(&order->answer, laminate->entries, laminate->count, &own->entry);
+    refusal_explain(&order->pins, &order->answer, &own->verdict, &own->finding);
 }
 
 void order_changed(struct order *order)
 {
     order->judged.shown = false;
     answer_pins(&order->pins, &order->answer);
+    choose_own(order);
     parked_find(&order->pins, &order->answer, &order->parked);
     refusal_explain(&order->pins, &order->answer, &order->answer.verdict, &order->finding);
 }
@@ -60,31 +81,78 @@ bool order_view(const struct order *order, struct board_view *view)
     return true;
 }
 
+/* "word: meaning (where)"; a meaning that has the word needs it no second time. */
+static void meaning_words(uint32_t number, const struct finding *finding, char meaning[MEANING_MOST])
+{
+    const char *word = refusal_word(number), *where = finding->where;
+    bool said = strstr(finding->meaning, word) != NULL;
+    snprintf(meaning, MEANING_MOST, "%s%s%s%s%s%s", said ? "" : word, said ? "" : ": ", finding->meaning,
+             *where ? " (" : "", where, *where ? ")" : "");
+}
+
+static void remedy_words(const struct finding *finding, char remedy[MESSAGE_MOST])
+{
+    remedy[0] = '\0';
+    if (finding->remedy[0] != '\0')
+        snprintf(remedy, MESSAGE_MOST, "What to do: %s.", finding->remedy);
+}
+
+/* The entry or the refusal of a laminate, as it stands after the blank; or nothing. */
+static void own_words(const struct own_blank *own, char words[WORDS_MOST])
+{
+    words[0] = '\0';
+    if (own->asked && own->verdict.refused)
+        snprintf(words, WORDS_MOST, "  own REFUSED %u %u", own->verdict.number, own->verdict.place);
+    else if (own->asked)
+        snprintf(words, WORDS_MOST, "  own %u", own->entry);
+}
+
 void order_summary(const struct order *order, char summary[MESSAGE_MOST])
 {
     const struct answer *answer = &order->answer;
     const struct verdict *verdict = order_verdict(order);
-    const struct finding *finding = &order->finding;
-    const char *where = finding->where;
+    char meaning[MEANING_MOST], own[WORDS_MOST];
+    own_words(&order->own, own);
     if (verdict->refused) {
-        const char *word = refusal_word(verdict->number);
-        bool said = strstr(finding->meaning, word) != NULL; /* a meaning that has the word needs it no second time */
-        snprintf(summary, MESSAGE_MOST, "REFUSED %u %u  %s%s%s%s%s%s", verdict->number, verdict->place,
-                 said ? "" : word, said ? "" : ": ", finding->meaning, *where ? " (" : "", where, *where ? ")" : "");
-    }
-    else if (order->judged.shown)
+        meaning_words(verdict->number, &order->finding, meaning);
+        snprintf(summary, MESSAGE_MOST, "REFUSED %u %u  %s", verdict->number, verdict->place, meaning);
+    } else if (order->judged.shown)
         snprintf(summary, MESSAGE_MOST, "GOOD %u  the board is good, on %u tracks", order->judged.tracks,
                  order->judged.tracks);
     else
-        snprintf(summary, MESSAGE_MOST, "width %u  tracks %u  blank %u  density %u  chain %u  pieces %u", answer->width,
-                 answer->tracks, answer->blank, answer->density, answer->chain, answer->pieces);
+        snprintf(summary, MESSAGE_MOST, "width %u  tracks %u  blank %u%s  density %u  chain %u  pieces %u",
+                 answer->width, answer->tracks, answer->blank, own, answer->density, answer->chain, answer->pieces);
 }
 
 void order_remedy(const struct order *order, char remedy[MESSAGE_MOST])
 {
-    remedy[0] = '\0';
-    if (order->finding.remedy[0] != '\0')
-        snprintf(remedy, MESSAGE_MOST, "What to do: %s.", order->finding.remedy);
+    remedy_words(&order->finding, remedy);
+}
+
+bool order_own_refusal(const struct order *order, char meaning[MESSAGE_MOST], char remedy[MESSAGE_MOST])
+{
+    const struct own_blank *own = &order->own;
+    if (order->judged.shown || !own->verdict.refused)
+        return false;
+    meaning_words(own->verdict.number, &own->finding, meaning);
+    remedy_words(&own->finding, remedy);
+    return true;
+}
+
+static const char *entries_word(const struct laminate *laminate)
+{
+    return laminate->count == 1 ? "entry" : "entries";
+}
+
+bool order_own_name(const struct order *order, char words[MESSAGE_MOST])
+{
+    const struct laminate *laminate = &order->laminate;
+    if (order->judged.shown || !order->own.asked)
+        return false;
+    snprintf(words, MESSAGE_MOST, "own laminate of %zu %s: %s", laminate->count, entries_word(laminate),
+             laminate->path);
+    hide_controls(words);
+    return true;
 }
 
 void order_looks(const struct order *order, size_t across, struct looks_bar *bar)
@@ -94,19 +162,26 @@ void order_looks(const struct order *order, size_t across, struct looks_bar *bar
         looks_bar(order->answer.looks, order->answer.ceiling, across, bar);
 }
 
-/* Says why a file with no two labelled lines is no pin list. */
-static void say_garbled(struct order *order, const char *path, const uint8_t *text, size_t length)
+/* The line that a byte of a text stands in, and its place there, both from 1. */
+static size_t line_at(const uint8_t *text, size_t length, size_t offset, size_t *place)
 {
-    struct verdict verdict = answer_text(text, length);
     size_t line = 1, start = 0;
-    for (size_t i = 0; i < verdict.place && i < length; i++)
+    for (size_t i = 0; i < offset && i < length; i++)
         if (text[i] == '\n') {
             line++;
             start = i + 1;
         }
+    *place = offset - start + 1;
+    return line;
+}
+
+/* Says why a file with no two labelled lines is no pin list. */
+static void say_garbled(struct order *order, const char *path, const uint8_t *text, size_t length)
+{
+    struct verdict verdict = answer_text(text, length);
+    size_t byte, line = line_at(text, length, verdict.place, &byte);
     say(order, "REFUSED %u %u  %s: not loaded, %s %s at line %zu, byte %zu", verdict.number, verdict.place,
-        refusal_word(verdict.number), path, verdict.place < length ? "is no pin list" : "ends too early", line,
-        verdict.place - start + 1);
+        refusal_word(verdict.number), path, verdict.place < length ? "is no pin list" : "ends too early", line, byte);
 }
 
 /* What is told of a list with lines that end in CR LF, which nothing else on the screen shows. */
@@ -118,12 +193,11 @@ static const char *ends_words(const struct pin_text *pins)
     return words[pins->rows[TOP_ROW].returns][pins->rows[BOT_ROW].returns];
 }
 
-enum outcome order_load(struct order *order, const char *path)
+/* Reads a file that is to be loaded, or says why it can't be. */
+static enum outcome read_whole(struct order *order, const char *path, uint8_t text[INPUT_LIMIT], size_t *length)
 {
-    uint8_t text[INPUT_LIMIT];
-    size_t length = 0;
     const char *why = "";
-    enum file_outcome outcome = file_read(path, text, sizeof text, &length, &why);
+    enum file_outcome outcome = file_read(path, text, INPUT_LIMIT, length, &why);
     if (outcome == FILE_FAILED) {
         say(order, "cannot read %s: %s", path, why);
         return OUTCOME_FAILED;
@@ -133,6 +207,16 @@ enum outcome order_load(struct order *order, const char *path)
             INPUT_LIMIT);
         return OUTCOME_REFUSED;
     }
+    return OUTCOME_DONE;
+}
+
+enum outcome order_load(struct order *order, const char *path)
+{
+    uint8_t text[INPUT_LIMIT];
+    size_t length = 0;
+    enum outcome outcome = read_whole(order, path, text, &length);
+    if (outcome != OUTCOME_DONE)
+        return outcome;
     if (!pin_text_take(&order->pins, text, length)) {
         say_garbled(order, path, text, length);
         return OUTCOME_REFUSED;
@@ -140,6 +224,45 @@ enum outcome order_load(struct order *order, const char *path)
     order->kept = order->pins;
     order_changed(order);
     say(order, "loaded %s%s", path, ends_words(&order->pins));
+    return OUTCOME_DONE;
+}
+
+/* Says why a file is no table. The place stands before the name, of which a long one is cut. */
+static void say_stray(struct order *order, const char *path, const uint8_t *text, size_t length, size_t stray)
+{
+    char words[STRAY_WORDS];
+    size_t column, line = line_at(text, length, stray, &column);
+    laminate_stray_words(text, length, stray, words);
+    say(order, "not loaded: line %zu, column %zu has %s; %s is no table", line, column, words, path);
+}
+
+enum outcome order_load_laminate(struct order *order, const char *path)
+{
+    uint8_t text[INPUT_LIMIT];
+    size_t length = 0;
+    enum outcome outcome = read_whole(order, path, text, &length);
+    if (outcome != OUTCOME_DONE)
+        return outcome;
+    size_t stray = laminate_stray(text, length);
+    if (stray < length) {
+        say_stray(order, path, text, length, stray);
+        return OUTCOME_REFUSED;
+    }
+    laminate_take(&order->laminate, path, text, length);
+    choose_own(order);
+    say(order, "loaded %s (%zu %s)", path, order->laminate.count, entries_word(&order->laminate));
+    return OUTCOME_DONE;
+}
+
+enum outcome order_drop_laminate(struct order *order)
+{
+    if (!order->laminate.loaded) {
+        say(order, "there is no laminate to drop");
+        return OUTCOME_REFUSED;
+    }
+    say(order, "dropped the laminate %s", order->laminate.path);
+    order->laminate.loaded = false;
+    choose_own(order);
     return OUTCOME_DONE;
 }
 

@@ -6,6 +6,7 @@
 #include "answer.h"
 #include "board_view.h"
 #include "files.h"
+#include "laminate.h"
 #include "looks_bar.h"
 #include "parked.h"
 #include "refusals.h"
@@ -23,17 +24,27 @@ struct judged {
     size_t length;
 };
 
+/* What the shop answers to a laminate that is loaded, for the board of the list. */
+struct own_blank {
+    bool asked; /* not where no laminate is loaded, or the list has no board */
+    struct verdict verdict;
+    uint32_t entry;
+    struct finding finding;
+};
+
 struct order {
     struct pin_text pins;
     struct pin_text kept; /* the list as a file has it: as it was loaded or saved last */
     struct answer answer;
+    struct laminate laminate;
+    struct own_blank own;
     struct parked parked;
     struct judged judged;
     struct finding finding;     /* of the verdict that is shown: the judge's, or else the router's */
     char message[MESSAGE_MOST]; /* what came of the last command, in one line */
 };
 
-/* Answers the list anew; to be called after every change of it. */
+/* Answers the list anew, and chooses from the laminate; to be called after every change of the list. */
 void order_changed(struct order *order);
 
 /* Whether the list was changed since a file had it. */
@@ -43,12 +54,18 @@ bool order_is_unsaved(const struct order *order);
 const struct verdict *order_verdict(const struct order *order);
 bool order_view(const struct order *order, struct board_view *view);
 
-/* Width, tracks, blank, density, chain and pieces of a list that was not refused; or the tracks of a good board; or the
- * refusal with its meaning and its place in the rows. */
+/* Width, tracks, blank, density, chain and pieces of a list that was not refused, and after the blank the laminate's
+ * entry or its refusal; or the tracks of a good board; or the list's refusal with its meaning and its place in the
+ * rows. */
 void order_summary(const struct order *order, char summary[MESSAGE_MOST]);
 
 /* "What to do: .." about the refusal that is shown, or nothing. */
 void order_remedy(const struct order *order, char remedy[MESSAGE_MOST]);
+
+/* Beside a summary that has a blank, where a laminate is loaded: why it is refused and what to do, or nothing; and how
+ * many entries it has, with its file. Each answers whether there is something to say. */
+bool order_own_refusal(const struct order *order, char meaning[MESSAGE_MOST], char remedy[MESSAGE_MOST]);
+bool order_own_name(const struct order *order, char words[MESSAGE_MOST]);
 
 /* The looks of the list's routing and their ceiling, in at most so many cells; or nothing, where the list has no rows
  * or the board that is shown is not its own. */
@@ -58,6 +75,12 @@ void order_looks(const struct order *order, size_t across, struct looks_bar *bar
 
 /* Takes a pin list from a file. A file that two typed rows cannot show is refused and changes nothing. */
 enum outcome order_load(struct order *order, const char *path);
+
+/* Takes a customer's own laminate from a file, good or not, in place of the one before, and tells how many entries it
+ * has; any other file is refused and changes nothing. Or drops it; REFUSED where none is loaded. The list, and a judged
+ * board, stay as they are. */
+enum outcome order_load_laminate(struct order *order, const char *path);
+enum outcome order_drop_laminate(struct order *order);
 
 /* Turns the list over, refused or not: its rows are exchanged. Tells its tracks, and those before, if it has a board.
  * REFUSED where both rows are empty. */

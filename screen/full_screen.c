@@ -28,6 +28,7 @@ static void command_key(struct screen *screen, int key)
     case CONTROL('Y'): case K_F6: edit_step(screen, false); break;
     case CONTROL('W'): case K_F7: question_ask(screen, PROMPT_SAVE_PINS); break;
     case CONTROL('T'): case K_F8: edit_turn(screen); break;
+    case CONTROL('B'): case K_F9: question_ask(screen, PROMPT_LAMINATE); break;
     case CONTROL('N'): edit_to_mark(screen); break;
     case K_ESCAPE: edit_show_list(screen); break;
     default: screen_scroll(screen, key); break;

@@ -13,6 +13,8 @@ static const char help[] =
     "turn               exchanges TOP and BOT, and tells the tracks now and before\n"
     "show               answers the list: its board, or why it is refused\n"
     "load FILE          takes a pin list from a file\n"
+    "laminate FILE      takes a customer's own laminate, a table of track counts, from a file\n"
+    "laminate           drops it\n"
     "save FILE          writes the board file; a file that exists is kept\n"
     "replace FILE       writes the board file, also over one that exists\n"
     "save-pins FILE     writes the pin list; a file that exists is kept\n"
@@ -81,6 +83,11 @@ static bool load(struct order *order, const char *path, unsigned long number)
     return told(order, number, order_load(order, path) == OUTCOME_DONE);
 }
 
+static bool load_laminate(struct order *order, const char *path, unsigned long number)
+{
+    return told(order, number, order_load_laminate(order, path) == OUTCOME_DONE);
+}
+
 static bool judge(struct order *order, const char *path, unsigned long number)
 {
     return told(order, number, order_judge(order, path) == OUTCOME_DONE) && print_order(order);
@@ -129,8 +136,8 @@ static const struct file_command {
     const char *word;
     bool (*run)(struct order *order, const char *path, unsigned long number);
 } file_commands[] = {
-    {"load", load}, {"save", save}, {"replace", replace}, {"save-pins", save_pins}, {"replace-pins", replace_pins},
-    {"judge", judge},
+    {"load", load}, {"laminate", load_laminate}, {"save", save}, {"replace", replace}, {"save-pins", save_pins},
+    {"replace-pins", replace_pins}, {"judge", judge},
 };
 
 static bool run_on_file(struct order *order, const struct file_command *command, const char *path, unsigned long number)
@@ -168,6 +175,8 @@ static bool command(struct order *order, struct line *line, unsigned long number
     }
     if (strcmp(line->text, "turn") == 0)
         return told(order, number, order_turn(order) == OUTCOME_DONE);
+    if (strcmp(line->text, "laminate") == 0)
+        return told(order, number, order_drop_laminate(order) == OUTCOME_DONE);
     if (strcmp(line->text, "help") == 0)
         return fputs(help, stdout) >= 0;
     for (size_t i = 0; i < sizeof file_commands / sizeof *file_commands; i++)

@@ -103,6 +103,18 @@ static void print_looks(const struct order *order)
         printf("%s\n", bar.text);
 }
 
+/* The entries and the name of a laminate beside a blank; why it is refused, and what to do. Answers whether it is. */
+static bool print_own(const struct order *order)
+{
+    char text[MESSAGE_MOST], remedy[MESSAGE_MOST];
+    if (order_own_name(order, text))
+        printf("%s\n", text);
+    bool refused = order_own_refusal(order, text, remedy);
+    if (refused)
+        printf("%s\n%s\n", text, remedy);
+    return refused;
+}
+
 void print_parked(const struct order *order)
 {
     char words[PARKED_WORDS];
@@ -119,6 +131,7 @@ bool print_order(const struct order *order)
     print_rows(order);
     order_summary(order, text);
     printf("%s\n", text);
+    bool own_refused = print_own(order);
     print_looks(order);
     print_parked(order);
     order_remedy(order, text);
@@ -132,5 +145,5 @@ bool print_order(const struct order *order)
             printf("piece %u: %s\n", view.marked_piece, words);
         print_drawing(&view);
     }
-    return !verdict->refused;
+    return !verdict->refused && !own_refused;
 }

@@ -31,6 +31,8 @@ const char *prompt_question(const struct prompt *prompt)
         [PROMPT_LOAD] = "Load the pin list from file: ",
         [PROMPT_SAVE_BOARD] = "Save the board as file: ",
         [PROMPT_SAVE_PINS] = "Save the pin list as file: ",
+        [PROMPT_LAMINATE] = "Load the laminate from file: ",
+        [PROMPT_OTHER_LAMINATE] = "Laminate file (none: drop it): ",
         [PROMPT_JUDGE] = "Judge the board file: ",
         [PROMPT_REPLACE_BOARD] = "This file exists. Replace (y or n)? ",
         [PROMPT_REPLACE_PINS] = "This file exists. Replace (y or n)? ",

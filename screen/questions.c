@@ -30,6 +30,16 @@ static void judge(struct screen *screen)
     screen_follow_fault(screen);
 }
 
+/* An empty name drops the laminate, if one is loaded. */
+static void laminate(struct screen *screen)
+{
+    struct order *order = screen->order;
+    if (screen->prompt.length > 0)
+        screen_told(screen, order_load_laminate(order, screen->prompt.text));
+    else if (order->laminate.loaded)
+        screen_told(screen, order_drop_laminate(order));
+}
+
 static void save(struct screen *screen, enum prompt_kind what, bool replace)
 {
     bool board = what == PROMPT_SAVE_BOARD;
@@ -70,9 +80,13 @@ void question_name_key(struct screen *screen, int key)
         return;
     }
     prompt_close(&screen->prompt);
-    if (key == K_ESCAPE || screen->prompt.length == 0)
+    if (key == K_ESCAPE)
         return;
-    if (kind == PROMPT_LOAD && order_is_unsaved(screen->order))
+    if (kind == PROMPT_LAMINATE || kind == PROMPT_OTHER_LAMINATE)
+        laminate(screen);
+    else if (screen->prompt.length == 0)
+        return;
+    else if (kind == PROMPT_LOAD && order_is_unsaved(screen->order))
         prompt_open(&screen->prompt, PROMPT_DISCARD_AND_LOAD);
     else if (kind == PROMPT_LOAD)
         load(screen);
@@ -90,6 +104,8 @@ void question_ask(struct screen *screen, enum prompt_kind kind)
         screen_refuse(screen, "there is no board to save: the pin list is refused");
     else if (kind == PROMPT_JUDGE && !answer_has_rows(answer))
         screen_refuse(screen, "no board is judged: the pin list is refused");
+    else if (kind == PROMPT_LAMINATE && screen->order->laminate.loaded)
+        prompt_open(&screen->prompt, PROMPT_OTHER_LAMINATE);
     else
         prompt_open(&screen->prompt, kind);
 }

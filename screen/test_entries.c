@@ -187,6 +187,42 @@ static void blanks(void)
     expect("blank, largest", cabjirt_blank(UINT32_MAX), 14, UINT32_MAX);
 }
 
+static void own_blanks(void)
+{
+    static const uint32_t own[] = {4, 6, 16};
+    expect("own blank 0", cabjirt_own_blank(own, 3, 0), 0, 4);
+    expect("own blank 4", cabjirt_own_blank(own, 3, 4), 0, 4);
+    expect("own blank 5", cabjirt_own_blank(own, 3, 5), 0, 6);
+    expect("own blank 16", cabjirt_own_blank(own, 3, 16), 0, 16);
+    expect("own blank 5, the first two entries alone", cabjirt_own_blank(own, 2, 5), 0, 6);
+    expect("no stock", cabjirt_own_blank(own, 3, 17), 16, 17);
+    expect("no stock, 512", cabjirt_own_blank(own, 3, 512), 16, 512);
+    expect("own blank 513", cabjirt_own_blank(own, 3, 513), 14, 513);
+    expect("own blank, largest", cabjirt_own_blank(own, 3, UINT32_MAX), 14, UINT32_MAX);
+    expect("own blank 513, no table", cabjirt_own_blank(NULL, 0, 513), 14, 513);
+    expect("no table", cabjirt_own_blank(NULL, 0, 0), 15, 0);
+}
+
+/* Tables of 64 entries and more, and ones with a bad entry: it is told also where one before it holds the tracks, and
+ * where none does. */
+static void bad_tables(void)
+{
+    uint32_t table[66], same[66];
+    for (uint32_t i = 0; i < 66; i++)
+        table[i] = same[i] = 448 + i;
+    expect("64 entries, the first", cabjirt_own_blank(table + 1, 64, 0), 0, 449);
+    expect("64 entries, the last", cabjirt_own_blank(table + 1, 64, 512), 0, 512);
+    expect("65 entries, each good", cabjirt_own_blank(table, 65, 1), 15, 0);
+    expect("66 entries, the last bad", cabjirt_own_blank(table, 66, 1), 15, 0);
+    expect("the last of 64 is 513", cabjirt_own_blank(table + 2, 64, 1), 15, 64);
+    expect("513 alone", cabjirt_own_blank(table + 65, 1, 1), 15, 1);
+    expect_same("the table is only read", table, same, sizeof same);
+    expect("an entry of 0", cabjirt_own_blank((const uint32_t[]){0, 5}, 2, 0), 15, 1);
+    expect("an entry twice", cabjirt_own_blank((const uint32_t[]){5, 7, 7, 6}, 4, 1), 15, 3);
+    expect("a falling entry, and no stock", cabjirt_own_blank((const uint32_t[]){5, 3}, 2, 9), 15, 2);
+    expect("the largest number", cabjirt_own_blank((const uint32_t[]){5, UINT32_MAX}, 2, 1), 15, 2);
+}
+
 int main(void)
 {
     reading();
@@ -195,6 +231,8 @@ int main(void)
     parking();
     looking();
     blanks();
+    own_blanks();
+    bad_tables();
     printf("C entries: %d passed, %d failed\n", passed, failed);
     return failed != 0;
 }

@@ -14,6 +14,8 @@ sys.dont_write_bytecode = True
 sys.path.insert(0, str(Path(__file__).resolve().parent))
 import cases_build  # noqa: E402
 import cases_files  # noqa: E402
+import cases_laminate  # noqa: E402
+import cases_laminate_pipe  # noqa: E402
 import cases_line_ends  # noqa: E402
 import cases_looks  # noqa: E402
 import cases_padded  # noqa: E402
@@ -28,7 +30,7 @@ import pseudo_terminal  # noqa: E402
 def main():
     try:
         for cases in (cases_build, cases_typing, cases_files, cases_window, cases_pipe, cases_parked, cases_padded,
-                      cases_line_ends, cases_looks, cases_turned):
+                      cases_line_ends, cases_looks, cases_turned, cases_laminate, cases_laminate_pipe):
             with tempfile.TemporaryDirectory() as name:
                 cases.run(Path(name))
     except (pseudo_terminal.Failure, subprocess.TimeoutExpired) as failure:

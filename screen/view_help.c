@@ -7,6 +7,7 @@ static const char *const help[] = {
     "F5 or ^_ undo   F6 or ^Y redo",
     "F8 or ^T        turn the list over: exchange TOP and BOT",
     "F2 or ^O        load a pin list from a file",
+    "F9 or ^B        load a laminate's table",
     "F3 or ^S        save the board file",
     "F7 or ^W        save the pin list",
     "F4 or ^G        judge a board file;  Esc back to the list's own board",

@@ -10,7 +10,7 @@ void view_keys(void)
 {
     static const char *const keys[] = {
         "F1 help", "^Q quit", "^O load", "^S save board", "^W save list", "^G judge", "F5 undo", "F6 redo",
-        "F8 turn over",
+        "F8 turn over", "F9 laminate",
     };
     int y = paint_rows() - 1, x = 1;
     paint_bar(y, STYLE_BAR);
@@ -60,8 +60,22 @@ static int put_fault(const struct order *order, const struct board_view *view, i
     return paint_lines(y, LINE_RULER, 0, text, STYLE_PLAIN);
 }
 
-/* The verdict, broken between words, and the parked pins, for which a line is kept; but a fault is told first. An empty
- * list is greeted and not refused. */
+/* Why a laminate is refused, and what to do; then its name, cut at the window's edge: as far as there are lines.
+ * Answers the line after it. */
+static int put_own(const struct order *order, int y, int end)
+{
+    char text[MESSAGE_MOST], remedy[MESSAGE_MOST];
+    if (order_own_refusal(order, text, remedy)) {
+        y = paint_lines(y, end, 0, text, STYLE_BAD);
+        y = paint_lines(y, end, 0, remedy, STYLE_PLAIN);
+    }
+    if (y < end && order_own_name(order, text))
+        paint_text(y++, 0, paint_across(), text, STYLE_PLAIN);
+    return y;
+}
+
+/* The verdict, broken between words, the laminate, and the parked pins, for which a line is kept; but a fault is told
+ * first. An empty list is greeted and not refused. */
 void view_verdict(const struct screen *screen, const struct board_view *view)
 {
     char text[MESSAGE_MOST], parked[PARKED_WORDS];
@@ -78,6 +92,7 @@ void view_verdict(const struct screen *screen, const struct board_view *view)
     int y = paint_lines(LINE_VERDICT, end, 0, text, refused ? STYLE_BAD : STYLE_GOOD);
     if (faulty && view != NULL)
         y = put_fault(order, view, y);
+    y = put_own(order, y, end);
     parked_words(&order->parked, (size_t)paint_across(), parked);
     paint_lines(y, LINE_RULER, 0, parked, STYLE_PARKED);
 }
