@@ -20,12 +20,16 @@ SECTIONS_OF_01 = ("Wiring rule", "Pin list", "Spans and constraints", "Filling t
 
 
 def blocks(section):
-    """The transcripts of a section: for each command, its output with all space between words made one."""
-    found = []
+    """The transcripts of a section: for each command, its output with all space between words made one. A line that is
+    not indented ends one."""
+    found, inside = [], False
     for line in section.splitlines():
         if line.startswith("    $ "):
             found.append([line[6:], ""])
-        elif line.startswith("    ") and found:
+            inside = True
+        elif not line.startswith("    "):
+            inside = False
+        elif inside:
             found[-1][1] += f" {line}"
     return [(command, " ".join(output.split())) for command, output in found]
 
