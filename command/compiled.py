@@ -1,5 +1,5 @@
-"""Sees that the programs in C, the order screen and the blank chooser, are there and compiled from their sources as they
-are, which the `build` of each knows itself."""
+"""Sees that the programs in C, the order screen and the blank chooser, are there and compiled from their sources as
+they are, which the `build` of each knows itself."""
 import subprocess
 from collections import namedtuple
 from pathlib import Path
