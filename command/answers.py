@@ -1,4 +1,4 @@
-"""The lines that the proved programs write, taken apart. Only a whole output of a known form is an answer."""
+"""The lines that the programs write, taken apart. Only a whole output of a known form is an answer."""
 import re
 from collections import namedtuple
 
@@ -6,6 +6,7 @@ from command import refusals
 
 NUMBER = rb"(0|[1-9][0-9]{0,9})"
 GOOD = re.compile(rb"GOOD " + NUMBER + rb"\n")
+BLANK = re.compile(rb"BLANK " + NUMBER + rb"\n")
 REFUSED = re.compile(rb"REFUSED " + NUMBER + rb" " + NUMBER + rb"\n(?:RING " + NUMBER + rb" " + NUMBER + rb"\n)*")
 NET = rb"NET " + rb" ".join([NUMBER] * 4) + rb"\n"
 LISTING = re.compile(
@@ -13,6 +14,7 @@ LISTING = re.compile(
     rb"END " + NUMBER + rb"\n")
 
 Facts = namedtuple("Facts", "width tracks blank density chain pieces")
+Blank = namedtuple("Blank", "tracks")
 # word is GOOD or REFUSED; place is the tracks of a good board; ring has pairs of net and column
 Verdict = namedtuple("Verdict", "word number place ring")
 
@@ -37,6 +39,12 @@ def verdict_of(output):
     """GOOD and its tracks, or a refusal; None for any other output."""
     match = GOOD.fullmatch(output)
     return Verdict("GOOD", 0, int(match.group(1)), ()) if match else refusal_of(output)
+
+
+def blank_of(output):
+    """The blank that an output names; None for any other output."""
+    match = BLANK.fullmatch(output)
+    return Blank(int(match.group(1))) if match else None
 
 
 def facts_of(output):

@@ -2,7 +2,7 @@
 from command import boardfile, slips
 from command.copper import Copper
 from command.pinlist import SIDES, place_words, rows_of, side_and_column
-from command.refusals import filled, read_table
+from command.refusals import BAD_TABLE, NO_BLANK, NO_STOCK, filled, read_table
 
 PAIRS_SPELT = 12
 LONGEST_NUMBER = 12
@@ -19,11 +19,21 @@ def is_of_board(verdict, pins):
 
 
 def explained(verdict, pins, board=b"", pins_name="the pin list", board_name="the board file"):
-    """Two sentences, without their full stops: what it means, with its place; and the remedy."""
-    meaning, remedy = meaning_of(verdict), filled(read_table()[verdict.number].remedy, verdict.place)
+    """What a refusal of a pin list or a board file is, in two sentences."""
     more = DETAILS.get(verdict.number, no_detail)(verdict.place, pins, board, verdict)
-    about = board_name if is_of_board(verdict, pins) else pins_name
-    return f"{about}: {meaning}" + (f"; {more}" if more else ""), remedy
+    return sentences(verdict, board_name if is_of_board(verdict, pins) else pins_name, more)
+
+
+def explained_choice(verdict, entries, table_name):
+    """The same of a blank that is refused. There are no entries where a stock blank was asked for."""
+    about = "" if verdict.number == NO_BLANK else table_name  # so many tracks are no fault of a table
+    return sentences(verdict, about, DETAILS_OF_CHOICE[verdict.number](verdict.place, entries))
+
+
+def sentences(verdict, about, more):
+    """Two sentences, without their full stops: what a refusal means, with its place; and the remedy."""
+    meaning, remedy = meaning_of(verdict), filled(read_table()[verdict.number].remedy, verdict.place)
+    return (f"{about}: " if about else "") + meaning + (f"; {more}" if more else ""), remedy
 
 
 def cut(number):
@@ -109,3 +119,22 @@ def floating(place, _pins, board, _verdict):
 
 DETAILS = {2: garbled, 3: too_wide, 4: uneven, 5: high_net, 7: tangled, 8: torn, 9: bad_field, 10: wrong_board,
            11: short, 12: open_, 13: floating}
+
+
+def no_blank(_place, entries):
+    return "" if entries is None else "a table has none of over 512 either"
+
+
+def bad_table(place, entries):
+    """The bad entry, and the one before it, than which it has to be larger."""
+    if place == 0:
+        return f"it has {len(entries)} entries" if entries else "it has no entry"
+    before = f", and entry {place - 1} is {cut(entries[place - 2])}" if place > 1 else ""
+    return f"entry {place} is {cut(entries[place - 1])}{before}"
+
+
+def no_stock(_place, entries):
+    return f"its last entry is {cut(entries[-1])}"
+
+
+DETAILS_OF_CHOICE = {NO_BLANK: no_blank, BAD_TABLE: bad_table, NO_STOCK: no_stock}

@@ -1,12 +1,13 @@
-"""Reading a pin list or a board file that was named on the command line."""
+"""Reading a pin list, a board file or a table of blanks that was named on the command line."""
 import os
 
 from command import standard
 from command.failure import Failure, reason
 
 STANDARD = "-"
-# The programs refuse more than 65,536 bytes, whatever follows; a picture shows some bytes after that place.
-READ_MOST = 2 * 65536
+MOST = 65536
+# The programs refuse more than that, whatever follows; a picture shows some bytes after that place.
+READ_MOST = 2 * MOST
 
 
 def called(name):
@@ -47,6 +48,6 @@ def status_of(name):
         return None
 
 
-def refuse_standard_twice(first, second):
-    if first == second == STANDARD:
-        raise Failure("PINS and BOARD cannot both be standard input")
+def refuse_standard_twice(pins_name, other_name, other="BOARD"):
+    if pins_name == other_name == STANDARD:
+        raise Failure(f"PINS and {other} cannot both be standard input")

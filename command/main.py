@@ -2,11 +2,11 @@
 import signal
 import sys
 
-from command import board, judge, listing, make, order, picture, places, standard, told, turn
+from command import blank, board, judge, listing, make, order, picture, places, standard, told, turn
 from command.failure import Failure
 
 COMMANDS = {"make": make, "list": listing, "board": board, "turn": turn, "judge": judge, "picture": picture,
-            "order": order}
+            "blank": blank, "order": order}
 HELP = """\
 channel: a pin list in; listing, board file, judgement and picture out
 
@@ -22,8 +22,8 @@ A pin list is two lines, TOP and BOT, each with one net number a column, 0 for n
 
 A number that stands just once parks its pin, which gets no copper; standard error then says so.
 
-Exit status: 0 for a listing, a board, a turned list or a good board; 1 for a refusal or fault, which standard error
-explains; 2 for wrong use or a step that failed.
+Exit status: 0 for a listing, a board, a turned list, a good board or a blank; 1 for a refusal or fault, which standard
+error explains; 2 for wrong use or a step that failed.
 """
 
 
@@ -50,22 +50,41 @@ def help_of(words):
     return "usage: " + COMMANDS[words[0]].__doc__
 
 
-def operands_of(name, words):
-    """The operands of a command, or None if its help is asked for. Options end at --; a single - is an operand."""
-    operands, options = [], True
-    for word in words:
-        if options and word == "--":
-            options = False
-        elif options and word in ("-h", "--help"):
+def words_of(name, words):
+    """The operands of a command and the values of its options by name, or None if its help is asked for. Options end at
+    --; a single - is an operand."""
+    operands, values, left = [], {}, list(words)
+    while left:
+        word = left.pop(0)
+        if word == "--":
+            operands += left
+            break
+        if word in ("-h", "--help"):
             return None
-        elif options and word.startswith("-") and word != "-":
-            raise WrongUse(f"{name} has no option {word}; usage: {usage_of(COMMANDS[name])}")
+        if word.startswith("-") and word != "-":
+            take_option(name, word, left, values)
         else:
             operands.append(word)
     least, most = COMMANDS[name].OPERANDS
     if not least <= len(operands) <= most:
         raise WrongUse(f"usage: {usage_of(COMMANDS[name])}")
-    return operands
+    return operands, values
+
+
+def take_option(name, word, left, values):
+    """Adds the value of an option: what stands behind its =, or else the next word that is left."""
+    option, equals, value = word.partition("=")
+    usage, key = f"usage: {usage_of(COMMANDS[name])}", option.lstrip("-")
+    known = getattr(COMMANDS[name], "OPTIONS", {})
+    if option not in known:
+        raise WrongUse(f"{name} has no option {word}; {usage}")
+    if key in values:
+        raise WrongUse(f"{option} stands twice; {usage}")
+    if not equals and left:
+        value = left.pop(0)
+    if not value:
+        raise WrongUse(f"{option} needs {known[option]}; {usage}")
+    values[key] = value
 
 
 def perform(words):
@@ -82,13 +101,14 @@ def perform(words):
     if name not in COMMANDS:
         kind = "option" if name.startswith("-") else "command"
         raise WrongUse(f"there is no {kind} {name}: see channel --help")
-    operands = operands_of(name, rest)
-    if operands is None:
+    taken = words_of(name, rest)
+    if taken is None:
         standard.write_output(help_of([name]).encode())
         return told.GOOD
     if COMMANDS[name] is not order:
         standard.refuse_closed_output()
-    return COMMANDS[name].run(*operands)
+    operands, values = taken
+    return COMMANDS[name].run(*operands, **values)
 
 
 def version():

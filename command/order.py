@@ -7,7 +7,7 @@ the list over, save it and its board, judge a board file. Through a pipe it take
 import os
 import signal
 
-from command import order_screen, places
+from command import compiled, places
 from command.failure import Failure, reason
 
 SUMMARY = "open the order screen"
@@ -16,7 +16,7 @@ OPERANDS = (0, 1)
 
 def run(*pins_name):
     """Becomes the order screen, whose exit status is then the command's."""
-    order_screen.ready()
+    compiled.ready(compiled.ORDER_SCREEN)
     for number in (signal.SIGPIPE, signal.SIGXFSZ):  # which Python ignores, and the order screen would inherit that
         signal.signal(number, signal.SIG_DFL)
     try:

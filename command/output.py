@@ -1,8 +1,8 @@
 """Putting a board file at the place that was named for it, whole or not at all.
 
 A plain file is written beside its place, read back, and renamed into it; through a symbolic link the link stays and its
-target is replaced. A pipe or a character device is written into. A folder, a disk or a socket is refused, and so is
-the file that the pin list was read from.
+target is replaced. A pipe or a character device is written into. A folder, a disk or a socket is refused, and so are
+the files that the pin list and a table of blanks are read from.
 """
 import os
 import stat
@@ -17,22 +17,22 @@ STANDARD = "-"
 class Place:
     """Where a board is to go. Making one refuses the places that can't take it, before any work is done."""
 
-    def __init__(self, name, pins_name):
+    def __init__(self, name, pins_name, table_name=None):
         self.name, self.beside = name, None
         try:
             self.status = None if name == STANDARD else status_of(name)
             self.standard = name == STANDARD or is_standard_output(self.status)
             if self.standard:
                 self.status = os.fstat(standard.OUTPUT)
-            self.refuse(pins_name)
+            self.refuse({"the pin list": pins_name, "the table of blanks": table_name})
         except (OSError, ValueError) as error:
             raise self.failure(error) from error
 
     def failure(self, error):
         return Failure(f"cannot write {self.name}: {reason(error) if isinstance(error, OSError) else error}")
 
-    def refuse(self, pins_name):
-        """Refuses a place that is the pin list, or no file, or in a folder that can't be written."""
+    def refuse(self, read):
+        """Refuses a place that is a file that is read, or no file, or in a folder that can't be written."""
         if self.is_plain():
             folder = os.path.dirname(os.path.realpath(self.name))
             os.stat(folder)
@@ -40,16 +40,20 @@ class Place:
                 raise Failure(f"cannot write {self.name}: the folder {folder} cannot be written")
         if self.status is None:
             return
-        pins = inputs.status_of(pins_name)
-        same = pins is not None and os.path.samestat(self.status, pins)
-        if same and (not self.standard or stat.S_ISREG(pins.st_mode)):  # a terminal may be both
-            raise Failure(f"{self.name} is the pin list itself, which the board would replace")
+        for called, name in read.items():
+            if name is not None and self.is_input(inputs.status_of(name)):
+                raise Failure(f"{self.name} is {called} itself, which the board would replace")
         if self.standard:
             return
         if stat.S_ISDIR(self.status.st_mode):
             raise Failure(f"cannot write {self.name}: it is a folder")
         if stat.S_ISBLK(self.status.st_mode) or stat.S_ISSOCK(self.status.st_mode):
             raise Failure(f"cannot write {self.name}: it is a disk or a socket, and no file")
+
+    def is_input(self, status):
+        """Whether a file that is read stands at the place. A terminal may be both."""
+        same = status is not None and os.path.samestat(self.status, status)
+        return same and (not self.standard or stat.S_ISREG(status.st_mode))
 
     def is_plain(self):
         return not self.standard and (self.status is None or stat.S_ISREG(self.status.st_mode))

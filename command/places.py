@@ -7,6 +7,7 @@ TARGET = ROOT / "target"
 PROGRAMS = TARGET / "bin" if IN_SOURCES else ROOT / "bin"
 LIBRARY = TARGET / "staticlib" / "libscreen_api.a"
 ORDER_SCREEN = TARGET / "order" if IN_SOURCES else ROOT / "bin" / "order"
+CHOOSER = TARGET / "choose" if IN_SOURCES else ROOT / "bin" / "choose"
 VERSION = ROOT / "VERSION"
 
 

@@ -22,12 +22,16 @@ def ended(status):
 
 
 def run(program, data=b"", folder=None):
-    """What a program writes of its input, its files being in the folder. Raises Failure if it does not end well."""
-    step = STEPS[program]
+    """What a proved program writes of its input, its files being in the folder."""
+    return run_step(STEPS[program], [places.PROGRAMS / program], data, folder)
+
+
+def run_step(step, command, data=b"", folder=None):
+    """What a program writes. Raises Failure, which names the step, if it does not end well."""
     try:
-        done = subprocess.run([places.PROGRAMS / program], input=data, capture_output=True, cwd=folder, check=False)
+        done = subprocess.run(command, input=data, capture_output=True, cwd=folder, check=False)
     except OSError as error:
-        raise Failure(f"{step} could not be run: {reason(error)} ({places.PROGRAMS / program})") from error
+        raise Failure(f"{step} could not be run: {reason(error)} ({command[0]})") from error
     if done.returncode != 0:
         said = done.stderr.decode(errors="replace").strip().splitlines()
         raise Failure(f"{step} failed: it {ended(done.returncode)}" + (f" and said: {said[0]}" if said else ""))

@@ -6,6 +6,7 @@ TABLE = Path(__file__).resolve().parent / "refusals.tsv"
 HEADING = ["number", "word", "meaning", "remedy"]
 UNUSED = 6  # stands for no refusal; the numbers after it are as the paper has them
 NUMBERS = tuple(number for number in range(17) if number != UNUSED)
+NO_BLANK, BAD_TABLE, NO_STOCK = 14, 15, 16  # what a choice of a blank is refused with
 
 Refusal = namedtuple("Refusal", HEADING)
 

@@ -1,13 +1,18 @@
-"""What stands at the byte where a text stops being a pin list, and the slip that is likely behind it."""
+"""What stands at the byte where a text stops being a pin list, and the slip that is likely behind it. Tables of blanks
+share the slips of a file, of spaces and of numbers."""
 
 NAMES = {0x00: "a zero byte", 0x09: "a tab", 0x0a: "a line feed", 0x0d: "a carriage return", 0x20: "a space"}
-MARKS = {b"\xef\xbb\xbf": "a byte order mark stands before TOP: save the file as plain text without it",
+MARKS = {b"\xef\xbb\xbf": "the file begins with a byte order mark: save it as plain text without one",
          b"\xff\xfe": "the file is UTF-16 text: save it as ASCII or UTF-8",
          b"\xfe\xff": "the file is UTF-16 text: save it as ASCII or UTF-8"}
 WORDS = (b"TOP", b"BOT")
 LINE_ENDS = b"\r\n"
+RETURN = 0x0d
 # No-break and other wide or narrow spaces, as word processors and web pages have them, in Latin-1 and UTF-8.
 OTHER_SPACES = (b"\xa0", *(space.encode() for space in "\u00a0\u2002\u2003\u2007\u2009\u202f\u3000"))
+# What is said of a comma, of a sign or point, of a comment and of a letter.
+SLIPS_OF_NETS = ("numbers are parted by spaces and nothing else", "a net number is a whole number without a sign",
+                 "a pin list has no comments", "a net is a number, without letters")
 NUMBERS_DUE = "a space and a number are due there"
 LONE_RETURN = ("a carriage return stands without a line feed behind it: end lines in a line feed, with or without a "
                "carriage return before it")
@@ -110,16 +115,15 @@ def slip_of_space(text, place, _line, _column):
     return None
 
 
-def slip_of_number(text, place, _line, _column):
+def slip_of_number(text, place, _line, _column, words=SLIPS_OF_NETS):
     here, before = chr(text[place]), text[place - 1:place]
+    parted, signed, comment, letter = words
     if here.isdecimal() and before == b"0":
         return "a number has no leading zero"
     if here in ",;|":
-        return "numbers are parted by spaces and nothing else"
+        return parted
     if here in "+-.":
-        return "a net number is a whole number without a sign"
+        return signed
     if here == "#":
-        return "a pin list has no comments"
-    if here.isascii() and here.isalpha():
-        return "a net is a number, without letters"
-    return None
+        return comment
+    return letter if here.isascii() and here.isalpha() else None

@@ -1,7 +1,7 @@
 """The end of a command: a refusal is explained on standard error, parked pins are told there, and the exit status says
 which it was."""
 from command import answers, inputs
-from command.explain import explained, is_of_board
+from command.explain import explained, explained_choice, is_of_board
 from command.parked import parked_words
 from command.pinlist import rows_of
 from command.standard import say
@@ -19,6 +19,16 @@ def status(answer, pins, board=b"", pins_name="", board_name="the board file"):
     if not refused or answer.number == TANGLED or is_of_board(answer, pins):  # else the rows are not known
         tell_parked(pins, pins_name)
     return REFUSED if refused else GOOD
+
+
+def choice_status(answer, table):
+    """Explains the answer of a choice if it is a refusal, and gives the exit status."""
+    if not isinstance(answer, answers.Verdict):
+        return GOOD
+    entries, name = (None, "") if table is None else (table.entries, inputs.called(table.name))
+    for words in explained_choice(answer, entries, name):
+        say(words)
+    return REFUSED
 
 
 def tell_parked(pins, pins_name):

@@ -1,4 +1,4 @@
-/* The two refusals that only C programs meet, as docs/MANUAL.md shows them: a tray too short, and no blank. */
+/* The refusals that docs/MANUAL.md shows of C programs: a tray too short, which only they meet, and those of blanks. */
 #include <cabjirt.h>
 #include <stdio.h>
 
@@ -10,7 +10,10 @@ static void print(uint64_t answer)
 int main(void)
 {
     static uint32_t top[CABJIRT_ROW - 1], bot[CABJIRT_ROW];
+    static const uint32_t falling[] = {8, 16, 12}, table[] = {8, 16, 24};
     print(cabjirt_read((const uint8_t *)"TOP 0\nBOT 0\n", 12, top, CABJIRT_ROW - 1, bot, CABJIRT_ROW));
     print(cabjirt_blank(513));
+    print(cabjirt_own_blank(falling, 3, 9));
+    print(cabjirt_own_blank(table, 3, 25));
     return 0;
 }

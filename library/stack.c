@@ -9,12 +9,13 @@
 
 #include <cabjirt.h>
 
-enum { STACK = 8 << 20, FILL = 0xa5, NETS = 511 };
+enum { STACK = 8 << 20, FILL = 0xa5, NETS = 511, ENTRIES = 64 };
 
 static char text[65536];
 static size_t text_length;
 static uint32_t top[CABJIRT_ROW], bot[CABJIRT_ROW], ring[CABJIRT_RING], scratch[CABJIRT_SCRATCH];
 static uint8_t board[CABJIRT_BOARD];
+static uint32_t table[ENTRIES];
 static uint64_t answer;
 
 /* The chain of 511 nets with a pin in every place but one, the channel with the most pieces. */
@@ -27,6 +28,13 @@ static void make_text(void)
     for (int c = 1; c <= CABJIRT_ROW; c++)
         text_length += (size_t)sprintf(text + text_length, " %d", c < NETS ? c + 1 : 0);
     text_length += (size_t)sprintf(text + text_length, "\n");
+}
+
+/* The longest table of blanks, of which only the last holds 512 tracks. */
+static void make_table(void)
+{
+    for (uint32_t i = 0; i < ENTRIES; i++)
+        table[i] = 8 * (i + 1);
 }
 
 static void *nothing(void *unused) { return unused; }
@@ -59,6 +67,12 @@ static void *judging(void *unused)
 static void *choosing(void *unused)
 {
     answer = cabjirt_blank(512);
+    return unused;
+}
+
+static void *choosing_own(void *unused)
+{
+    answer = cabjirt_own_blank(table, ENTRIES, 512);
     return unused;
 }
 
@@ -103,9 +117,11 @@ int main(void)
                    {"cabjirt_route", routing},
                    {"cabjirt_judge", judging},
                    {"cabjirt_blank", choosing},
+                   {"cabjirt_own_blank", choosing_own},
                    {"cabjirt_looks", looking},
                    {"cabjirt_ceiling", capping}};
     make_text();
+    make_table();
     size_t without = depth(nothing);
     for (size_t i = 0; i < sizeof entries / sizeof *entries; i++) {
         size_t bytes = depth(entries[i].run) - without;

@@ -91,6 +91,25 @@ class Installed(unittest.TestCase):
         self.assertEqual(board.read_bytes(), bytes.fromhex("00800000"))
         self.assertIn(b'class="parked-pin"', run(command, "picture", pins).stdout)
 
+    def test_blanks(self):
+        """The chooser is installed beside the programs; where it is gone the command says so, and builds none."""
+        command, pins, table = self.prefix / "bin" / "channel", self.room / "listed", self.room / "table"
+        pins.write_bytes(A)
+        table.write_bytes(b"3 5\r\n")
+        listed = run(command, "list", pins).stdout
+        told = f"channel: {pins}: its board goes on the 3-track blank of {table} (stock: 8)\n".encode()
+        due = {("blank", "9"): (0, b"BLANK 12\n", b""), ("blank", "4", table): (0, b"BLANK 5\n", b""),
+               ("make", pins, self.room / "own", "--laminate", table): (0, listed, told)}
+        for words, answer in due.items():
+            done = run(command, *words)
+            self.assertEqual((done.returncode, done.stdout, done.stderr), answer)
+        self.assertEqual(run(command, "blank", "6", table).stdout, b"REFUSED 16 6\n")
+        program = self.prefix / "lib" / "cabjirt" / "bin" / "choose"
+        kept = program.rename(self.room / "choose")
+        self.addCleanup(kept.rename, program)
+        done = run(command, "blank", "9")
+        self.assertEqual((done.returncode, done.stderr), (2, b"channel: the blank chooser is not installed\n"))
+
     def test_the_order_screen(self):
         done = run(self.prefix / "bin" / "channel", "order", input=L + b"show\n")
         self.assertEqual(done.returncode, 2 if OPTIONS else 0, done.stderr.decode())
@@ -121,7 +140,7 @@ class Installed(unittest.TestCase):
         told = dict(re.findall(r"^\| `(cabjirt_\w+)` \| (\d+) KiB \|", (ROOT / "docs" / "MANUAL.md").read_text(), re.M))
         for _, name, used in map(str.split, measured.splitlines()):
             self.assertLessEqual(int(used), 1024 * int(told[name]), name)
-        self.assertEqual(len(told), 7)
+        self.assertEqual(len(told), 8)
 
     def test_the_man_page(self):
         page = self.prefix / "share" / "man" / "man1" / "channel.1"

@@ -11,7 +11,7 @@ enum { THREADS = 4, ROUNDS = 300 };
 struct work {
     uint32_t top[CABJIRT_ROW], bot[CABJIRT_ROW], ring[CABJIRT_RING], scratch[CABJIRT_SCRATCH];
     uint8_t board[CABJIRT_BOARD];
-    uint64_t answers[7];
+    uint64_t answers[8];
 };
 
 static struct work due[THREADS], works[THREADS];
@@ -38,6 +38,7 @@ static void work_through(struct work *work, size_t which)
     work->answers[4] = cabjirt_blank((uint32_t)width);
     work->answers[5] = cabjirt_looks(work->top, width, work->bot, width);
     work->answers[6] = cabjirt_ceiling(work->top, width, work->bot, width);
+    work->answers[7] = cabjirt_own_blank((const uint32_t[]){16, 24, 36}, 3, (uint32_t)width);
 }
 
 static void *repeat(void *number)

@@ -13,19 +13,23 @@ from command.tests.workshop import ROOT
 MANUAL = (ROOT / "docs" / "MANUAL.md").read_text()
 PAGE = (ROOT / "docs" / "channel.1").read_text()
 SCOPE = (ROOT / "docs" / "SCOPE.md").read_text()
-ONLY_FROM_C = {1, 14}  # refusals that the commands never give
+ONLY_FROM_C = {1}  # refusals that the commands never give
 SECTIONS_OF_01 = ("Wiring rule", "Pin list", "Spans and constraints", "Filling tracks", "Drawing", "Board file",
                   "Judge, blanks, programs", "The shop's refusal words", "Bench examples", "Which form belongs where",
                   "Contracts and examples")
 
 
 def blocks(section):
-    """The transcripts of a section: for each command, its output with all space between words made one."""
-    found = []
+    """The transcripts of a section: for each command, its output with all space between words made one. A line that is
+    not indented ends one."""
+    found, inside = [], False
     for line in section.splitlines():
         if line.startswith("    $ "):
             found.append([line[6:], ""])
-        elif line.startswith("    ") and found:
+            inside = True
+        elif not line.startswith("    "):
+            inside = False
+        elif inside:
             found[-1][1] += f" {line}"
     return [(command, " ".join(output.split())) for command, output in found]
 

@@ -27,7 +27,7 @@ class Table(unittest.TestCase):
         self.table = refusals.read_table()
 
     def test_numbers_and_words(self):
-        self.assertEqual(list(self.table), [0, 1, 2, 3, 4, 5, 7, 8, 9, 10, 11, 12, 13, 14])
+        self.assertEqual(list(self.table), [0, 1, 2, 3, 4, 5, *range(7, 17)])
         self.assertEqual(len({refusal.word for refusal in self.table.values()}), len(self.table))
 
     def test_the_header_for_c_programs(self):
@@ -56,7 +56,7 @@ class Table(unittest.TestCase):
             self.assertNotIn("%p", meaning_of(verdict))
 
     def test_no_answer_has_the_number_that_is_not_used(self):
-        for number in range(17):
+        for number in range(18):
             ring = b"RING 1 1\n" if number == 7 else b""
             taken = answers.refusal_of(b"REFUSED %d 1\n" % number + ring)
             self.assertEqual(taken is not None, number in self.table, number)
@@ -66,7 +66,7 @@ class Table(unittest.TestCase):
         before, seven, after = lines[:7], lines[7], lines[8:]
         wrong = {
             "empty": [], "heading alone": lines[:1], "no heading": lines[1:], "cut": lines[:-1],
-            "more": [*lines, "15\ta\tb\tc\n"], "a number left out": before + after,
+            "more": [*lines, "17\ta\tb\tc\n"], "a number left out": before + after,
             "the number that is not used": [*before, "6\ta\tb\tc\n", seven, *after],
             "that number for another": [*before, "6\ta\tb\tc\n", *after],
             "two exchanged": [*before, after[0], seven, *after[1:]],

@@ -4,7 +4,7 @@ import subprocess
 
 from command.tests.workshop import A, LISTED, ROOT, TANGLED, Workshop
 
-COMMANDS = ("make", "list", "board", "turn", "judge", "picture", "order")
+COMMANDS = ("make", "list", "board", "turn", "judge", "picture", "blank", "order")
 
 
 class Help(Workshop):
@@ -35,7 +35,8 @@ class WrongUse(Workshop):
                       ("list", "pins", "pins"), ("list", "--none", "pins"), ("make", "pins"), ("make", "-x", "board"),
                       ("judge", "pins"), ("judge", "-", "-"), ("picture", "-", "-"), ("picture",),
                       ("list", "none"), ("list", "."), ("judge", "pins", "none"), ("order", "a", "b"),
-                      ("--version", "x"), ("list", "-pins")):
+                      ("--version", "x"), ("list", "-pins"), ("blank",), ("blank", "x"), ("blank", "5", "pins"),
+                      ("list", "pins", "--laminate", "pins"), ("make", "pins", "new", "--laminate")):
             with self.subTest(words):
                 done = self.run_channel(*words)
                 self.assertEqual((done.status, done.output), (2, b""))
@@ -76,21 +77,23 @@ class FullOutput(Workshop):
         self.put("empty", b"")
         for words in (("list", "pins"), ("board", "pins"), ("judge", "pins", "board"), ("picture", "pins"),
                       ("list", "tangled"), ("make", "tangled", "new"), ("make", "pins", "-"), ("turn", "pins"),
-                      ("turn", "tangled"), ("turn", "empty"), ("--help",), ("--version",)):
+                      ("turn", "tangled"), ("turn", "empty"), ("blank", "5"), ("blank", "513"), ("blank", "5", "empty"),
+                      ("make", "pins", "new", "--laminate", "empty"), ("--help",), ("--version",)):
             self.full(*words)
+        self.assertNotIn("new", self.files())
 
     def test_closed(self):
-        for words in (("list", "pins"), ("board", "pins"), ("turn", "pins")):
+        for words in (("list", "pins"), ("board", "pins"), ("turn", "pins"), ("blank", "5")):
             done = self.run_channel(*words, preexec_fn=lambda: os.close(1))
             self.assertEqual(done.status, 2, words)
             self.assertIn("cannot write standard output: it is closed", done.words)
 
     def test_a_reader_that_has_gone(self):
-        for command in ("list", "turn"):
+        for words in (("list", "pins"), ("turn", "pins"), ("blank", "5")):
             with subprocess.Popen(["true"], stdin=subprocess.PIPE) as gone:
                 gone.wait()
-                done = self.run_channel(command, "pins", stdout=gone.stdin)
-            self.assertEqual(done.status, 2, command)
+                done = self.run_channel(*words, stdout=gone.stdin)
+            self.assertEqual(done.status, 2, words)
             self.assertIn("cannot write standard output", done.words)
 
     def test_standard_error_that_is_full_changes_no_status(self):
@@ -101,3 +104,5 @@ class FullOutput(Workshop):
             self.assertEqual((done.returncode, done.stdout.splitlines()[0]), (1, b"REFUSED 7 2"))
             done = subprocess.run([self.home / "channel", "list", "none"], cwd=self.room, stderr=full, check=False)
             self.assertEqual(done.returncode, 2)
+            done = self.run_channel("blank", "513", stderr=full)
+            self.assertEqual((done.status, done.output), (1, b"REFUSED 14 513\n"))

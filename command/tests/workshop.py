@@ -9,6 +9,7 @@ from pathlib import Path
 
 ROOT = Path(__file__).resolve().parent.parent.parent
 PROGRAMS = ("listing", "board_writer", "board_judge")
+CHOOSER = ROOT / "target" / "choose"
 A = b"TOP 0 1 2 3\nBOT 1 2 0 3\n"
 LISTED = b"BOARD 4 2 8\nBOUND 2 2\nNET 1 1 2 2\nNET 2 2 3 1\nNET 3 4 4 0\nEND 11\n"
 TANGLED = b"TOP 1 2\nBOT 2 1\n"
@@ -46,13 +47,14 @@ class Workshop(unittest.TestCase):
         copy_command(cls.home)
         compileall.compile_dir(cls.home, quiet=2)  # so that its many runs begin sooner
         (cls.home / "bin").mkdir()
+        subprocess.run([ROOT / "chooser" / "build", CHOOSER], check=True)
         cls.board = subprocess.run([ROOT / "target" / "bin" / "board_writer"], input=A, stdout=subprocess.PIPE,
                                    check=True).stdout
 
     def setUp(self):
-        for name in PROGRAMS:
-            (self.home / "bin" / name).unlink(missing_ok=True)
-            shutil.copy(ROOT / "target" / "bin" / name, self.home / "bin" / name)
+        for program in (CHOOSER, *(ROOT / "target" / "bin" / name for name in PROGRAMS)):
+            (self.home / "bin" / program.name).unlink(missing_ok=True)
+            shutil.copy(program, self.home / "bin" / program.name)
         self.room = Path(tempfile.mkdtemp(dir=self.rooms.name))
         self.pins = self.put("pins", A)
 

@@ -1,0 +1,47 @@
+"""Asking for a blank: a small C program calls the proved choice. What is no whole answer with status 0, or is none that
+these tracks and this table can have, is a failure of that step."""
+from command import answers, compiled, places, programs
+from command.failure import Failure
+from command.refusals import BAD_TABLE, NO_BLANK, NO_STOCK
+
+LARGEST = 4294967295  # that the choice can be handed
+LONGEST = len(str(LARGEST))
+
+
+def is_number(word):
+    """Whether a word is a number that can be handed over, digits alone and without a leading zero."""
+    plain = word.isascii() and word.isdigit() and (word == "0" or not word.startswith("0"))
+    return plain and len(word) <= LONGEST and int(word) <= LARGEST
+
+
+def handed(entry):
+    """An entry as it is handed over: one that is larger than can be is as bad as the largest, at the same place."""
+    return entry if is_number(entry) else str(LARGEST)
+
+
+def chosen(tracks, table=None):
+    """What the chooser writes of so many tracks, and what it means: a blank or a refusal. Without a table it is asked
+    for a stock blank."""
+    compiled.ready(compiled.CHOOSER)
+    words = ["stock", str(tracks)] if table is None else ["own", str(tracks), *map(handed, table.entries)]
+    output = programs.run_step(compiled.CHOOSER.called, [places.CHOOSER, *words])
+    answer = answers.blank_of(output) or answers.refusal_of(output)
+    if answer is None:
+        fail(f"its output is neither a blank nor a refusal ({programs.shown(output)})")
+    if not possible(answer, tracks, table):
+        fail(f"of {tracks} tracks it says {output.decode().rstrip()}, which is no answer")
+    return output, answer
+
+
+def fail(words):
+    raise Failure(f"{compiled.CHOOSER.called} failed: {words}")
+
+
+def possible(answer, tracks, table):
+    """Whether an answer can be one of these tracks and this table. Which of its entries it is, is not asked again."""
+    entries = () if table is None else table.entries
+    if isinstance(answer, answers.Blank):
+        return tracks <= answer.tracks and (table is None or str(answer.tracks) in entries)
+    if answer.number == BAD_TABLE:
+        return table is not None and answer.place <= len(entries)
+    return answer.place == tracks and (answer.number == NO_BLANK or answer.number == NO_STOCK and bool(entries))
