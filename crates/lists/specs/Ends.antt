@@ -7,13 +7,13 @@ use mathlib.Core.Path.{_≡_, refl, sym, _∙_, ap, subst}
 use mathlib.Core.List.{List, [], _∷_, map, List·Memᴰ, List·Memᴰ·head, List·Memᴰ·tail, List·Memᴰ·cases-cons}
 use mathlib.Core.List.{List·Memᴰ·not-nil, Memᴰ·cast}
 use mathlib.Core.Logic.{_⊎_, ⊎-elim}
-use mathlib.Core.Bool.{Bool, true, false, cond, _&&_}
+use mathlib.Core.Bool.{Bool, true, false, cond}
 use lib.ListN.{length, getD}
-use lib.Dec.{T, ltb, eqb, ltb→lt, eqb→eq, eqb-refl}
-use Rattle.lists.specs.Lists.{keep, allOf, from, headOr, lastOr, at, Distinct}
+use lib.Dec.{T, eqb, eqb→eq, eqb-refl}
+use Rattle.lists.specs.Lists.{keep, from, headOr, lastOr, at, Distinct}
 use Rattle.lists.specs.Pigeonhole.{distinct-cons}
-use Rattle.lists.specs.Tests.{T→true, eq→T, fails→false, and-left, and-right, equal?}
-use Rattle.lists.specs.Members.{keep-member, kept, from-member, all→member}
+use Rattle.lists.specs.Tests.{T→true, eq→T, fails→false, equal?}
+use Rattle.lists.specs.Members.{keep-member, kept, from-member}
 
 module _ {A : Type 0} where
   pub head-member : (d : A) {xs : List A} {x : A} → List·Memᴰ x xs → List·Memᴰ (headOr d xs) xs
@@ -191,20 +191,7 @@ just-once n (x ∷ xs) i j h k e f c = ⊎-elim here (there (λ a b. just-once n
         behind (suc i) (suc j) h k e f =
             ap suc (rest i j (omega arith) (omega arith) e f (fewer q))
 
--- `Rising`, as a test
-unfoldable pub rises : List ℕ → Bool
-rises [] = true
-rises (x ∷ xs) = allOf (ltb x) xs && rises xs
-
-pub rises→ : (xs : List ℕ) → T (rises xs) → Rising xs
-unfolding Rising rises
-rises→ [] t = tt
-rises→ (x ∷ xs) t = (
-  λ y m. ltb→lt x y (all→member (ltb x) (and-left (allOf (ltb x) xs) (rises xs) t) m),
-  rises→ xs (and-right (allOf (ltb x) xs) (rises xs) t),
-)
-
--- and it is `Rising` exactly if each number stands below its neighbour
+-- a list rises exactly if each number stands below its neighbour
 pub neighbours→rising : (xs : List ℕ) → ((i : ℕ) → suc i < length xs → getD xs i 0 < getD xs (suc i) 0) → Rising xs
 unfolding Rising headOr
 neighbours→rising [] h = tt
