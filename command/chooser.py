@@ -6,6 +6,7 @@ from command.refusals import BAD_TABLE, NO_BLANK, NO_STOCK
 
 LARGEST = 4294967295  # that the choice can be handed
 LONGEST = len(str(LARGEST))
+MOST_TRACKS, MOST_ENTRIES = 512, 64  # of any blank, and of a table
 
 
 def is_number(word):
@@ -38,10 +39,14 @@ def fail(words):
 
 
 def possible(answer, tracks, table):
-    """Whether an answer can be one of these tracks and this table. Which of its entries it is, is not asked again."""
+    """Whether an answer can be one of these tracks and this table. Which of its entries it is, is not asked again, and
+    which blanks the stock has is not known here."""
     entries = () if table is None else table.entries
+    if tracks > MOST_TRACKS:
+        return answer == answers.Verdict("REFUSED", NO_BLANK, tracks, ())
     if isinstance(answer, answers.Blank):
-        return tracks <= answer.tracks and (table is None or str(answer.tracks) in entries)
+        return tracks <= answer.tracks <= MOST_TRACKS and (table is None or str(answer.tracks) in entries)
     if answer.number == BAD_TABLE:
-        return table is not None and answer.place <= len(entries)
-    return answer.place == tracks and (answer.number == NO_BLANK or answer.number == NO_STOCK and bool(entries))
+        counted = 1 <= len(entries) <= MOST_ENTRIES
+        return table is not None and (1 <= answer.place <= len(entries) if counted else answer.place == 0)
+    return answer.number == NO_STOCK and answer.place == tracks and bool(entries)

@@ -7,17 +7,20 @@ from pathlib import Path
 from command import built, places
 from command.failure import Failure, reason
 
-Program = namedtuple("Program", "called build file log")
+# lacking is what is said where an installed command does not have the program
+Program = namedtuple("Program", "called build file log lacking")
 
-ORDER_SCREEN = Program("the order screen", Path("screen/build"), places.ORDER_SCREEN, "build_order.txt")
-CHOOSER = Program("the blank chooser", Path("chooser/build"), places.CHOOSER, "build_chooser.txt")
+ORDER_SCREEN = Program("the order screen", Path("screen/build"), places.ORDER_SCREEN, "build_order.txt",
+                       "the order screen is not installed")
+CHOOSER = Program("the blank chooser", Path("chooser/build"), places.CHOOSER, "build_chooser.txt",
+                  f"{places.CHOOSER} is missing: install the command again")
 
 
 def ready(program):
     """An installed command has a program or none; it compiles nothing."""
     if not places.IN_SOURCES:
         if not program.file.is_file():
-            raise Failure(f"{program.called} is not installed")
+            raise Failure(program.lacking)
         return
     built.library_ready()
     with built.locked():

@@ -128,7 +128,7 @@ def no_table(s, folder):
     (folder / "long").write_bytes(b"9 " * 32768 + b" ")
     for name, due in (("none", "cannot read none: No such file or directory"),
                       (".", "cannot read .: not a regular file"),
-                      ("long", "REFUSED 0 65536  too long: not loaded, long has more than 65536 bytes")):
+                      ("long", "not loaded: over 65536 bytes; long is no table")):
         s.type(LAMINATE + name + ENTER)
         expect_message(s, f"{name}: told", due)
         expect_text(s, f"{name}: the laminate stays", text_lines(A, OWN, "own"))

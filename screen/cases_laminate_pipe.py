@@ -88,7 +88,7 @@ def forms(folder):
         check(f"{text[:30]}: taken", (out[0], out[3], err), (f"loaded form ({entries(table)})", summary(A, table), []))
     (folder / "form").write_bytes(b" " * 65536 + b"8")
     check("one byte more", piped(folder, b"laminate form\n"), (
-        [], ["order: line 1: REFUSED 0 65536  too long: not loaded, form has more than 65536 bytes"], 1))
+        [], ["order: line 1: not loaded: over 65536 bytes; form is no table"], 1))
 
 
 def mistakes(folder):

@@ -36,7 +36,7 @@
  *   12  open         the lowest pin position not joined to its net's first pin
  *   13  floating     the number of the lowest piece joined to no pin
  *   14  no blank     the tracks wanted
- *   15  bad table    the first bad entry of a table of blanks, from 1; 0 if it has none or more than 64
+ *   15  bad table    the first bad entry of a table of blanks, from 1; 0 if it has no entry, or more than 64
  *   16  no stock     the tracks wanted, which no entry of the table holds
  *
  * The number 6 is not used.

@@ -193,30 +193,28 @@ static const char *ends_words(const struct pin_text *pins)
     return words[pins->rows[TOP_ROW].returns][pins->rows[BOT_ROW].returns];
 }
 
-/* Reads a file that is to be loaded, or says why it can't be. */
-static enum outcome read_whole(struct order *order, const char *path, uint8_t text[INPUT_LIMIT], size_t *length)
+/* Reads a file that is to be loaded, and says so if it can't be read. */
+static enum file_outcome read_whole(struct order *order, const char *path, uint8_t text[INPUT_LIMIT], size_t *length)
 {
     const char *why = "";
     enum file_outcome outcome = file_read(path, text, INPUT_LIMIT, length, &why);
-    if (outcome == FILE_FAILED) {
+    if (outcome == FILE_FAILED)
         say(order, "cannot read %s: %s", path, why);
-        return OUTCOME_FAILED;
-    }
-    if (outcome == FILE_TOO_LONG) {
-        say(order, "REFUSED 0 %d  %s: not loaded, %s has more than %d bytes", INPUT_LIMIT, refusal_word(0), path,
-            INPUT_LIMIT);
-        return OUTCOME_REFUSED;
-    }
-    return OUTCOME_DONE;
+    return outcome;
 }
 
 enum outcome order_load(struct order *order, const char *path)
 {
     uint8_t text[INPUT_LIMIT];
     size_t length = 0;
-    enum outcome outcome = read_whole(order, path, text, &length);
-    if (outcome != OUTCOME_DONE)
-        return outcome;
+    enum file_outcome read = read_whole(order, path, text, &length);
+    if (read == FILE_FAILED)
+        return OUTCOME_FAILED;
+    if (read == FILE_TOO_LONG) {
+        say(order, "REFUSED 0 %d  %s: not loaded, %s has more than %d bytes", INPUT_LIMIT, refusal_word(0), path,
+            INPUT_LIMIT);
+        return OUTCOME_REFUSED;
+    }
     if (!pin_text_take(&order->pins, text, length)) {
         say_garbled(order, path, text, length);
         return OUTCOME_REFUSED;
@@ -240,9 +238,13 @@ enum outcome order_load_laminate(struct order *order, const char *path)
 {
     uint8_t text[INPUT_LIMIT];
     size_t length = 0;
-    enum outcome outcome = read_whole(order, path, text, &length);
-    if (outcome != OUTCOME_DONE)
-        return outcome;
+    enum file_outcome read = read_whole(order, path, text, &length);
+    if (read == FILE_FAILED)
+        return OUTCOME_FAILED;
+    if (read == FILE_TOO_LONG) {
+        say(order, "not loaded: over %d bytes; %s is no table", INPUT_LIMIT, path);
+        return OUTCOME_REFUSED;
+    }
     size_t stray = laminate_stray(text, length);
     if (stray < length) {
         say_stray(order, path, text, length, stray);

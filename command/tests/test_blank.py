@@ -49,11 +49,11 @@ REFUSED = {  # tracks and table: the line, and what is said of it
     ("17", PLAIN): ("16 17", "table: no blank of the table holds 17 tracks; its last entry is 16",
                     "give a table whose last entry is at least 17"),
     ("512", b"511"): ("16 512", "its last entry is 511"),
-    ("0", b""): ("15 0", "table: the table of blanks is bad", "; it has no entry\n", "give 1 to 64 track counts"),
+    ("0", b""): ("15 0", "table: the table is bad at entry 0 (0: ", "; it has no entry\n", "give 1 to 64 track counts"),
     ("0", b" \r\n"): ("15 0", "; it has no entry\n"),
     ("0", b"1 " + SIXTY_FOUR): ("15 0", "; it has 65 entries\n"),
     ("512", b"1 " * 32768): ("15 0", "; it has 32768 entries\n"),
-    ("0", b"0"): ("15 1", "number 1 (0: ", "; entry 1 is 0\n"),
+    ("0", b"0"): ("15 1", "the table is bad at entry 1 (0: ", "; entry 1 is 0\n"),
     ("0", b"0 0"): ("15 1", "; entry 1 is 0\n"),
     ("0", b"8 513"): ("15 2", "; entry 2 is 513, and entry 1 is 8\n"),
     ("0", b"8 8"): ("15 2", "; entry 2 is 8, and entry 1 is 8\n"),
@@ -76,6 +76,7 @@ WRONG_CHOOSERS = {  # what is no answer of 2 tracks and the table 2 4 16
     "has the number that is not used": "echo REFUSED 6 2", "has one of a pin list": "echo REFUSED 5 2",
     "refuses other tracks": "echo REFUSED 14 3", "refuses other tracks of the table": "echo REFUSED 16 3",
     "refuses an entry that is not there": "echo REFUSED 15 4",
+    "refuses 3 entries as none or too many": "echo REFUSED 15 0", "refuses few tracks as too many": "echo REFUSED 14 2",
 }
 
 
@@ -197,9 +198,26 @@ class WrongChoosers(Workshop):
         self.failed("of 3 tracks it says BLANK 2, which is no answer", words=("blank", "3", "table"))
 
     def test_no_answer_of_the_stock(self):
-        for script in ("echo BLANK 1", "echo REFUSED 14 3", "echo REFUSED 15 0", "echo REFUSED 16 2"):
+        for script in ("echo BLANK 1", "echo BLANK 513", "echo REFUSED 14 3", "echo REFUSED 14 2", "echo REFUSED 15 0",
+                       "echo REFUSED 16 2"):
             self.fake("choose", script)
             self.failed("which is no answer", words=("blank", "2"))
+
+    def test_no_answer_of_too_many_tracks(self):
+        self.put("table", b"2 4 600")
+        for script in ("echo BLANK 600", "echo REFUSED 15 3", "echo REFUSED 16 513", "echo REFUSED 14 512"):
+            self.fake("choose", script)
+            self.failed("which is no answer", words=("blank", "513", "table"))
+
+    def test_no_answer_of_a_large_entry(self):
+        self.put("table", b"2 4 600")
+        self.fake("choose", "echo BLANK 600")
+        self.failed("which is no answer")
+
+    def test_no_answer_of_too_long_a_table(self):
+        self.put("table", b" ".join(b"%d" % n for n in range(1, 66)))
+        self.fake("choose", "echo REFUSED 15 3")
+        self.failed("which is no answer")
 
     def test_no_answer_of_an_empty_table(self):
         self.put("table", b"")
@@ -210,7 +228,7 @@ class WrongChoosers(Workshop):
     def test_a_chooser_that_is_missing_or_no_program(self):
         program = self.home / "bin" / "choose"
         program.unlink()
-        self.failed("is not installed")
+        self.failed("choose is missing: install the command again")
         program.write_bytes(b"")
         self.failed("could not be run: ")
 

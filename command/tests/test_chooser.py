@@ -160,5 +160,6 @@ class Build(Workshop):
         shutil.copytree(ROOT / "chooser", self.home / "chooser")
         self.addCleanup(shutil.rmtree, self.home / "chooser")
         done = self.run_channel("blank", "9")
-        self.assertEqual((done.status, done.words), (2, "channel: the blank chooser is not installed\n"))
+        missing = self.home / "bin" / "choose"
+        self.assertEqual((done.status, done.words), (2, f"channel: {missing} is missing: install the command again\n"))
         self.assertFalse((self.home / "target").exists() or (self.home / "bin" / "choose").exists())

@@ -57,7 +57,7 @@ module _ (table : List ℕ) where
 
     refused : {r : Refusal} → ownRefusal table t ≡ some r → Refused r ≡ ownAnswer table t
     unfolding ownAnswer
-    refused {r} e = sym (answered-some Refused (ownRefusal table t) (Blank (smallestFor table t)) r e)
+    refused {r} e = sym (answered-some Refused (ownRefusal table t) _ r e)
 
     answer : {a : BlankAnswer} → Outcome a → a ≡ ownAnswer table t
     unfolding ownAnswer ownRefusal noBlank noStock
@@ -73,11 +73,11 @@ module _ (table : List ℕ) where
         let holds = chosen .holds in
         let silent = none-refuse-if (ltb (lastOr 0 table) t) (NoStock t)
         (λ w. let l = ltb→lt (lastOr 0 table) t w in omega arith) in
-        sym (answered-none Refused (ownRefusal table t) (Blank (smallestFor table t))
-        (past-table (few-tracks passes chosen) passes ∙ silent) ∙ ap Blank (chosen-is passes chosen))
+        sym (answered-none Refused (ownRefusal table t) _ (past-table (few-tracks passes chosen) passes ∙ silent)
+        ∙ ap Blank (chosen-is passes chosen))
 
-    none-chosen : Passes table → NoneHolds table t → {b : ℕ} → Chosen table t b → ⊥
-    none-chosen passes below chosen = let l = below _ (chosen .inTable) in let holds = chosen .holds in omega arith
+    none-chosen : NoneHolds table t → {b : ℕ} → Chosen table t b → ⊥
+    none-chosen below chosen = let l = below _ (chosen .inTable) in let holds = chosen .holds in omega arith
 
     promise : {a : BlankAnswer} → Outcome a → OwnPromise table t (blankTold a .number) (valueTold a)
     unfolding blankTold headOr
@@ -111,7 +111,7 @@ module _ (table : List ℕ) where
           tracks-named = λ e. refl;
           chosen-exactly = λ b. (
             λ e. absurd (let n = e .0 in omega arith),
-            λ k. absurd (none-chosen passes below (k .1)),
+            λ k. absurd (none-chosen below (k .1)),
           );
         }
     promise (held passes chosen) =
@@ -120,7 +120,7 @@ module _ (table : List ℕ) where
           over-exactly = (λ e. absurd (omega arith), λ k. absurd (omega arith));
           bad-exactly = (λ e. absurd (omega arith), λ k. absurd (k .1 passes));
           bad-place = λ p. (λ e. absurd (let n = e .0 in omega arith), λ k. absurd (good-bad table passes (k .1)));
-          none-exactly = (λ e. absurd (omega arith), λ k. absurd (none-chosen passes (k .2) chosen));
+          none-exactly = (λ e. absurd (omega arith), λ k. absurd (none-chosen (k .2) chosen));
           tracks-named = λ e. absurd (⊎-elim (λ n. omega arith) (λ n. omega arith) e);
           chosen-exactly = λ b. (
             λ e. (passes, subst (Chosen table t) (e .1) chosen),

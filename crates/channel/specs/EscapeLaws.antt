@@ -152,7 +152,7 @@ escapes→silent ch e = record { notWide = notWide; notUneven = notUneven; notHi
 pub accepted-exactly : (ch : Channel) → (rowsRefusal ch ≡ none) ↔ Escapes ch
 accepted-exactly ch = (λ h. silent→escapes ch (silent→ ch h), λ e. →silent ch (escapes→silent ch e))
 
--- what stands at place k of a row is column k + 1's, and at most 511
+-- what stands at place k of a row is at most 511
 module _ (ch : Channel) (k : ℕ) where
   pub top-low : Escapes ch → getD (ch .top) k 0 ≤ highestNet
   top-low esc = let e = at-next (ch .top) k in let h = esc .low (k + 1) .0 in omega arith

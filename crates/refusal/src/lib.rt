@@ -34,9 +34,9 @@ pub enum Refusal {
     BadField(usize),
     // 10: the board file's width is not that of the rows; the file's width
     WrongBoard(usize),
-    // 14: no stock blank has so many tracks; the tracks
+    // 14: a blank is wanted for over 512 tracks; the tracks
     NoBlank(usize),
-    // 15: a table of blanks is bad; its first bad entry, from 1, or 0 if it has none or more than 64
+    // 15: a table of blanks is bad; its first bad entry, from 1, or 0 if it has no entry, or more than 64
     BadTable(usize),
     // 16: no entry of a table of blanks holds so many tracks; the tracks
     NoStock(usize),
