@@ -108,7 +108,8 @@ class Installed(unittest.TestCase):
         kept = program.rename(self.room / "choose")
         self.addCleanup(kept.rename, program)
         done = run(command, "blank", "9")
-        self.assertEqual((done.returncode, done.stderr), (2, f"channel: {program} is missing: install the command again\n".encode()))
+        missing = f"channel: {program} is missing: install the command again\n".encode()
+        self.assertEqual((done.returncode, done.stderr), (2, missing))
 
     def test_the_order_screen(self):
         done = run(self.prefix / "bin" / "channel", "order", input=L + b"show\n")

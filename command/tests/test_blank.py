@@ -169,13 +169,13 @@ class WrongChoosers(Workshop):
         self.put("table", PLAIN)
         self.put("board", OLD)
 
-    def failed(self, *parts, words=None):
+    def failed(self, *parts, words=None, named="the blank chooser"):
         """Neither command takes it for an answer: status 2, one line that names the step, the board as it was."""
         for asked in ((words,) if words else (("blank", "2", "table"), ("make", "pins", "board", "--laminate=table"),
                                               ("make", "pins", "-", "--laminate", "table"))):
             done = self.run_channel(*asked)
             self.assertEqual((done.status, done.output, done.words.count("\n")), (2, b"", 1), done.words)
-            for part in ("the blank chooser ", *parts):
+            for part in (f"channel: {named} ", *parts):
                 self.assertIn(part, done.words)
             self.assertEqual(((self.room / "board").read_bytes(), self.files()), (OLD, ["board", "pins", "table"]))
 
@@ -228,7 +228,7 @@ class WrongChoosers(Workshop):
     def test_a_chooser_that_is_missing_or_no_program(self):
         program = self.home / "bin" / "choose"
         program.unlink()
-        self.failed("choose is missing: install the command again")
+        self.failed("is missing: install the command again\n", named=program)
         program.write_bytes(b"")
         self.failed("could not be run: ")
 
