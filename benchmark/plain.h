@@ -15,7 +15,7 @@ enum {
     PLAIN_COLUMNS = 512,
     PLAIN_RING = 1022,
     PLAIN_BOARD = 10240,
-    PLAIN_SCRATCH = 10238,
+    PLAIN_SCRATCH = 5119,
     PLAIN_PIECES = 4095
 };
 
@@ -29,6 +29,10 @@ uint64_t plain_route(const uint32_t *top, size_t top_length, const uint32_t *bot
 
 uint64_t plain_judge(const uint32_t *top, size_t top_length, const uint32_t *bot, size_t bot_length,
                      const uint8_t *board, size_t board_length, uint32_t *scratch, size_t scratch_length);
+
+/* The same answers from a judge that compares each piece with all before it. */
+uint64_t plain_pairwise(const uint32_t *top, size_t top_length, const uint32_t *bot, size_t bot_length,
+                        const uint8_t *board, size_t board_length, uint32_t *scratch, size_t scratch_length);
 
 uint64_t plain_looks(const uint32_t *top, size_t top_length, const uint32_t *bot, size_t bot_length);
 

@@ -1,77 +1,108 @@
-/* The judge: classes of joined pins and pieces, marked in one number for each, and the faults read off the marks. */
+/* The judge: the elements of a board, its pin places and pieces, are joined where their ranges overlap on a column or on
+ * a track, in a union-find with one number for each; and the faults are read off the classes. */
 #include "plain.h"
 
-/* The box of grid points that a piece covers. */
-struct cover {
-    uint32_t kind, left, right, low, high;
+/* A number in two halves: of an element, its parent and the next one on its line, or of a root the net of its class; of
+ * a range, its element and the first place past it. */
+enum { HALF = 8192, LINES = PLAIN_COLUMNS + 1 };
+
+/* The board that is judged. */
+struct judged {
+    const struct plain_rows *rows;
+    const uint8_t *board;
+    uint32_t tracks;
 };
 
-static inline struct cover cover_of(uint32_t v)
+/* The places of a line that an element covers: the line, 0 for none; the first place, and the first place past it. */
+struct range {
+    uint32_t line, start, past;
+};
+
+static inline uint32_t find(uint32_t *forest, uint32_t i)
 {
+    uint32_t up = forest[i] % HALF;
+    while (up != i) {
+        uint32_t higher = forest[up] % HALF;
+        forest[i] = higher + forest[i] / HALF * HALF;
+        i = higher;
+        up = forest[i] % HALF;
+    }
+    return i;
+}
+
+static inline void join(uint32_t *forest, uint32_t a, uint32_t b)
+{
+    uint32_t x = find(forest, a), y = find(forest, b);
+    if (x < y)
+        forest[y] = x + forest[y] / HALF * HALF;
+    else
+        forest[x] = y + forest[x] / HALF * HALF;
+}
+
+static inline struct range pin_range(uint32_t net, uint32_t column, uint32_t row)
+{
+    return (struct range){net != 0 ? column : 0, row, row + 1};
+}
+
+/* The rows that element i covers in its column, or across, the columns on its track. */
+static inline struct range range_on(const struct judged *in, bool across, size_t i)
+{
+    size_t width = in->rows->width, pins = width + width;
+    if (across && i < pins)
+        return (struct range){0, 0, 1};
+    if (i < width)
+        return pin_range(in->rows->top[i], (uint32_t)i + 1, in->tracks + 1);
+    if (i < pins)
+        return pin_range(in->rows->bot[i - width], (uint32_t)(i - width) + 1, 0);
+    uint32_t v = plain_word(in->board + 4 + 4 * (i - pins));
     uint32_t kind = v >> 30, line = v >> 20 & 1023, from = v >> 10 & 1023, to = v & 1023;
     bool trunk = kind == PLAIN_TRUNK, branch = kind == PLAIN_BRANCH;
-    return (struct cover){
-        .kind = trunk ? PLAIN_TRUNK : branch ? PLAIN_BRANCH : PLAIN_CONTACT,
-        .left = trunk ? from : line,
-        .right = trunk ? to : line,
-        .low = trunk ? line : from,
-        .high = trunk ? line : branch ? to : from,
-    };
+    if (across)
+        return (struct range){branch ? 0 : trunk ? line : from, trunk ? from : line, (trunk ? to : line) + 1};
+    return (struct range){trunk ? 0 : line, trunk ? line : from, (trunk ? line : branch ? to : from) + 1};
 }
 
-static inline bool covers_touch(struct cover a, struct cover b)
+/* Of two ranges, the second of which starts at `start` and the first not later: joins them if they overlap, and answers
+ * the one that reaches further. */
+static inline uint32_t meet(uint32_t *forest, uint32_t first, uint32_t start, uint32_t second)
 {
-    return a.left <= b.right && b.left <= a.right && a.low <= b.high && b.low <= a.high &&
-           (a.kind == b.kind || a.kind == PLAIN_CONTACT || b.kind == PLAIN_CONTACT);
+    if (start < first / HALF)
+        join(forest, first % HALF, second % HALF);
+    return first < second ? second : first;
 }
 
-/* Every element of class `old` among the first n joins class `new`. */
-static void relabel(uint32_t *marks, size_t n, uint32_t old, uint32_t new)
+/* Enters the ranges of the elements on a line, which its chain holds. */
+static void enter_line(const struct judged *in, bool across, uint32_t head, uint32_t *starts, uint32_t *forest)
 {
-    for (size_t i = 0; i < n; i++)
-        if (marks[i] == old)
-            marks[i] = new;
+    for (uint32_t after = head; after != 0; after = forest[after - 1] / HALF) {
+        struct range r = range_on(in, across, after - 1);
+        starts[r.start] = meet(forest, starts[r.start], r.start, after - 1 + HALF * r.past);
+    }
 }
 
-/* The new element, of mark m or 0 if it has touched none so far, touches element i of the first n: its mark then. */
-static inline uint32_t join(uint32_t *marks, size_t n, size_t i, uint32_t m)
+static void sweep(uint32_t *starts, size_t places, uint32_t *forest)
 {
-    if (m == 0)
-        return marks[i];
-    if (marks[i] != m)
-        relabel(marks, n, marks[i], m);
-    return m;
+    uint32_t furthest = 0;
+    for (size_t start = 0; start < places; start++) {
+        uint32_t range = starts[start];
+        if (range != 0) {
+            starts[start] = 0;
+            furthest = meet(forest, furthest, (uint32_t)start, range);
+        }
+    }
 }
 
-/* The mark of a new piece from the pins that it touches: only a branch touches pins, those of its column at its
- * ends. */
-static uint32_t join_pins(const struct plain_rows *rows, uint32_t tracks, const struct cover *c, uint32_t *marks,
-                          size_t n)
+static void join_on(const struct judged *in, bool across, size_t lines, size_t places, uint32_t *forest, size_t n)
 {
-    uint32_t m = 0;
-    if (c->kind != PLAIN_BRANCH)
-        return m;
-    size_t i = c->left - 1;
-    if (c->high > tracks && rows->top[i] != 0)
-        m = join(marks, n, i, m);
-    if (c->low == 0 && rows->bot[i] != 0)
-        m = join(marks, n, rows->width + i, m);
-    return m;
-}
-
-static void mark_classes(const struct plain_rows *rows, uint32_t tracks, const uint32_t *words, size_t count,
-                         uint32_t *marks)
-{
-    size_t base = 2 * rows->width;
-    for (size_t i = 0; i < base; i++)
-        marks[i] = (uint32_t)i + 1;
-    for (size_t j = 0; j < count; j++) {
-        struct cover c = cover_of(words[j]);
-        uint32_t m = join_pins(rows, tracks, &c, marks, base + j);
-        for (size_t i = 0; i < j; i++)
-            if (covers_touch(cover_of(words[i]), c))
-                m = join(marks, base + j, base + i, m);
-        marks[base + j] = m != 0 ? m : (uint32_t)(base + j) + 1;
+    uint32_t heads[LINES] = {0}, starts[LINES] = {0};
+    for (size_t i = 0; i < n; i++) {
+        uint32_t line = range_on(in, across, i).line;
+        forest[i] = forest[i] % HALF + HALF * heads[line];
+        heads[line] = (uint32_t)i + 1;
+    }
+    for (size_t line = 1; line < lines; line++) {
+        enter_line(in, across, heads[line], starts, forest);
+        sweep(starts, places, forest);
     }
 }
 
@@ -80,7 +111,16 @@ static inline uint32_t net_at(const struct plain_rows *rows, size_t i)
     return i < rows->width ? rows->top[i] : rows->bot[i - rows->width];
 }
 
-/* A pin claims a place of a table for its value: it may if the place is free, which is 0, or has that value. */
+/* A pin claims its class for its net: it may if the class has no net yet, or that one. */
+static inline bool claim_class(uint32_t *forest, size_t i, uint32_t net)
+{
+    uint32_t *root = &forest[forest[i] % HALF];
+    if (*root / HALF == 0)
+        *root += HALF * net;
+    return *root / HALF == net;
+}
+
+/* The same of a place of a table. */
 static inline bool claim(uint32_t *place, uint32_t value)
 {
     if (*place == 0)
@@ -88,25 +128,24 @@ static inline bool claim(uint32_t *place, uint32_t value)
     return *place == value;
 }
 
-/* 0, or the first fault in rising number of the marks of all pin places and `count` pieces. */
-static uint64_t find_fault(const struct plain_rows *rows, const uint32_t *marks, size_t count)
+/* 0, or the first fault in rising number of the n elements. */
+static uint64_t find_fault(const struct plain_rows *rows, uint32_t *forest, size_t n)
 {
-    size_t base = 2 * rows->width;
-    uint32_t owners[2 * PLAIN_COLUMNS + PLAIN_PIECES + 1] = {0}; /* for each mark the net of its pins */
-    uint32_t firsts[PLAIN_NETS] = {0};                           /* for each net the mark of its first pin */
-    for (size_t i = 0; i < base; i++) {
+    size_t pins = 2 * rows->width;
+    for (size_t i = 0; i < pins; i++) {
         uint32_t net = net_at(rows, i);
-        if (net != 0 && !claim(&owners[marks[i]], net))
+        if (net != 0 && !claim_class(forest, i, net))
             return plain_refused(11, i + 1);
     }
-    for (size_t i = 0; i < base; i++) {
+    uint32_t firsts[PLAIN_NETS] = {0}; /* for each net the class of its first pin, counted from 1 */
+    for (size_t i = 0; i < pins; i++) {
         uint32_t net = net_at(rows, i);
-        if (net != 0 && !claim(&firsts[net], marks[i]))
+        if (net != 0 && !claim(&firsts[net], forest[i] % HALF + 1))
             return plain_refused(12, i + 1);
     }
-    for (size_t j = 0; j < count; j++)
-        if (owners[marks[base + j]] == 0)
-            return plain_refused(13, j + 1);
+    for (size_t i = pins; i < n; i++)
+        if (forest[forest[i] % HALF] / HALF == 0)
+            return plain_refused(13, i - pins + 1);
     return 0;
 }
 
@@ -125,10 +164,14 @@ uint64_t plain_judge(const uint32_t *top, size_t top_length, const uint32_t *bot
     if (header.width != top_length)
         return plain_refused(10, header.width);
     struct plain_rows rows = {top, bot, top_length};
-    uint32_t words[PLAIN_PIECES];
-    for (size_t i = 0; i < header.count; i++)
-        words[i] = plain_word(board + 4 + 4 * i);
-    mark_classes(&rows, header.tracks, words, header.count, scratch);
-    uint64_t fault = find_fault(&rows, scratch, header.count);
+    struct judged in = {&rows, board, header.tracks};
+    size_t n = 2 * rows.width + header.count;
+    for (size_t i = 0; i < n; i++)
+        scratch[i] = (uint32_t)i;
+    join_on(&in, false, rows.width + 1, header.tracks + 2, scratch, n);
+    join_on(&in, true, header.tracks + 1, rows.width + 1, scratch, n);
+    for (size_t i = 0; i < n; i++)
+        scratch[i] = scratch[scratch[i] % HALF] % HALF;
+    uint64_t fault = find_fault(&rows, scratch, n);
     return fault != 0 ? fault : header.tracks;
 }

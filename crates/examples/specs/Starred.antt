@@ -36,7 +36,7 @@ use Rattle.boardfile.specs.Encode.{word, header, fields, pieceWord, encode}
 use Rattle.boardfile.specs.Open.{wordAt, fileWidth, fileTracks, fileCount, fileSpare, headerOf, fieldsOf, wordRight}
 use Rattle.boardfile.specs.Open.{pieceOf, torn, badField, openRefusal, piecesFrom, fileLayout}
 use Rattle.judge.specs.Elements.{elements, elementsTouch}
-use Rattle.judge.specs.Classes.{marksOf, marksMet, remark, addElement, classesFrom, classes}
+use Rattle.classes.specs.Classes.{marksOf, marksMet, remark, addElement, classesFrom, classes}
 use Rattle.judge.specs.Finding.{marks, pins, firstOfNet, shorts, opens, floating, faultAtFirst, finding}
 use Rattle.judge.specs.Answers.{wrongBoard, judgeRefusal, judged, judgeAnswer, faultNumber, faultPlace, judgeTold}
 use Rattle.blanks.specs.Stock.{stock, smallestFor, noBlank}

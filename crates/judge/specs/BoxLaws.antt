@@ -1,20 +1,14 @@
--- The test of two boxes is that of the pieces whose boxes they are; and what the box of a word is by the tests of its
--- kind.
+-- What the box of a word is, by the tests of its kind.
 use Prim.Native.Nat.{ℕ}
 use mathlib.Core.Path.{_≡_, refl}
 use mathlib.Core.Bool.{Bool, true, false, cond}
 use lib.Dec.{eqb}
 use Rattle.grid.specs.Pieces.{column, row, trunkKind, branchKind, contactKind, kindOf, left, right, low, high}
 use Rattle.grid.specs.Words.{makePiece}
-use Rattle.grid.specs.Touching.{touches}
 use Rattle.boardfile.specs.declared.Fields.{Fields}
 use Rattle.boardfile.specs.Open.{fieldsOf, pieceOf}
 use Rattle.judge.specs.declared.boxes.Cover.{Cover}
-use Rattle.judge.specs.Code.{coverOf, boxOf, boxesTouch}
-
-pub boxes-touch : (v u : ℕ) → boxesTouch (boxOf v) (boxOf u) ≡ touches (pieceOf v) (pieceOf u)
-unfolding coverOf boxOf boxesTouch touches
-boxes-touch v u = refl
+use Rattle.judge.specs.Code.{coverOf, boxOf}
 
 -- the box of a word, each field picked by the two tests of the kind
 unfoldable pub pickedBox : Fields → Cover

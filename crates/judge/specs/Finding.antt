@@ -11,7 +11,7 @@ use Rattle.channel.specs.Channel.{Channel, width, positions}
 use Rattle.judge.specs.declared.Fault.{Fault}
 use Rattle.judge.specs.declared.Fault.the-variants.{Short, Open, Floating}
 use Rattle.judge.specs.Elements.{elements, elementsTouch}
-use Rattle.judge.specs.Classes.{marksOf, classes}
+use Rattle.classes.specs.Classes.{marksOf, classes}
 
 -- the mark of the pin place at position p is `at marks p`, that of piece i is `at marks (2w + i)`
 unfoldable pub marks : Channel → Layout → List ℕ

@@ -1,17 +1,15 @@
 -- What the judge answers, test by test, and what its parts ask and leave.
-use Prim.Native.Nat.{ℕ, zero, suc, _+_, _*_, _≤_, _<_}
+use Prim.Native.Nat.{ℕ, zero, suc, _+_, _≤_, _<_}
 use native.Mathlib.Omega.{arith}
-use mathlib.Core.Path.{_≡_, refl, sym, _∙_, ap, ap₂, subst}
-use mathlib.Core.List.{List, [], _∷_, map, List·Memᴰ, List·Memᴰ·not-nil, List·Memᴰ·cases-cons, Memᴰ·map}
+use mathlib.Core.Path.{_≡_, refl, sym, _∙_, ap, subst}
+use mathlib.Core.List.{List, [], _∷_, List·Memᴰ·not-nil, List·Memᴰ·cases-cons}
 use mathlib.Core.Logic.{⊎-elim}
 use mathlib.Core.Bool.{not}
 use mathlib.Core.Option.{Option, none, some}
-use lib.ListN.{length, getD, take, length-map}
-use lib.Seq.{getD-take, length-take-le}
+use lib.ListN.{length}
 use lib.Dec.{T, ltb, eqb, lt→ltb, eqb→eq, eqb-refl}
 use Rattle.lists.specs.Lists.{keep}
 use Rattle.lists.specs.Tests.{T→true, not-passes, not-fails}
-use Rattle.lists.specs.Ends.{getD-member}
 use Rattle.refusal.specs.declared.Refusal.{Refusal}
 use Rattle.refusal.specs.declared.Refusal.the-variants.{ShortTray, WrongBoard}
 use Rattle.refusal.specs.Refusals.{refuseAtFirst, _or-else_, answered}
@@ -19,145 +17,23 @@ use Rattle.refusal.specs.ChainLaws.{some-or-else, none-or-else-later, some-refu
 use Rattle.refusal.specs.ChainLaws.{answered-none}
 use Rattle.refusal.specs.Trays.{Tray, scratchTray, shortTray}
 use Rattle.refusal.specs.TrayLaws.{trays-fit}
-use Rattle.grid.specs.declared.Piece.{Piece}
-use Rattle.grid.specs.Pieces.{OnGrid, Layout}
 use Rattle.channel.specs.declared.RowsAnswer.the-variants as checking
 use Rattle.channel.specs.Channel.{Channel, width}
-use Rattle.channel.specs.Answers.{rowsRefusal, Escapes, rowsAnswer}
+use Rattle.channel.specs.Answers.{rowsRefusal, rowsAnswer}
 use Rattle.channel.specs.BoundLaws.{accepted→none, refused→some}
 use Rattle.channel.specs.EscapeLaws.{accepted-exactly}
 use Rattle.boardfile.specs.declared.OpenAnswer.the-variants as opening
-use Rattle.boardfile.specs.Open.{wordAt, pieceOf, fileWidth, fileTracks, fileCount, piecesFrom, fileLayout, openRefusal}
-use Rattle.boardfile.specs.Open.{openAnswer}
-use Rattle.boardfile.specs.FieldLaws.{header-small, opened-on-grid, opened-length}
+use Rattle.boardfile.specs.Open.{fileWidth, fileTracks, fileCount, fileLayout, openRefusal, openAnswer}
 use Rattle.judge.specs.declared.Fault.{Fault}
 use Rattle.judge.specs.declared.JudgeAnswer.{JudgeAnswer}
 use Rattle.judge.specs.declared.JudgeAnswer.the-variants.{Good, Faulty, Refused}
 use Rattle.judge.specs.declared.faults.Found.the-variants as found
-use Rattle.judge.specs.Finding.{marks, finding}
+use Rattle.judge.specs.Finding.{finding}
 use Rattle.judge.specs.Answers.{wrongBoard, judgeRefusal, judged, judgeAnswer}
 use Rattle.judge.specs.OnBytes.{demand2-on-bytes, places-on-bytes}
-use Rattle.judge.specs.Code.{wordPlaces, markPlaces, Judged}
-use Rattle.judge.specs.WordMarks.{wordsLayout, word-marks-bounded}
-use Rattle.judge.specs.Marking.{MarkReady}
-use Rattle.judge.specs.MarkSteps.{MarkedTo}
-use Rattle.judge.specs.FaultSteps.{FaultReady, foundOf}
-
--- the words of a file's pieces, at the front
-pub record WordsRead (board : List ℕ) (count : ℕ) (words : List ℕ) : Type 0 where
-  pub full : length words ≡ wordPlaces
-  pub word : (i : ℕ) → i < count → getD words i 0 ≡ wordAt board (4 + 4 * i)
-
--- nothing is refused, and these are the fields of the file
-pub record PiecesReady (ch : Channel) (board : List ℕ) (t n : ℕ) (scratch : List ℕ) : Type 0 where
-  pub room : scratchTray ≤ length scratch
-  pub escapes : Escapes ch
-  pub opens : openRefusal board ≡ none
-  pub sameWidth : fileWidth board ≡ width ch
-  pub tracks : t ≡ fileTracks board
-  pub count : n ≡ fileCount board
-
-pieces-from : (board ws : List ℕ) (a n : ℕ) → n ≤ length ws → ((i : ℕ) → i < n → getD ws i 0 ≡ wordAt board (a + 4 * i))
-    → map pieceOf (take n ws) ≡ piecesFrom board a n
-unfolding piecesFrom
-pieces-from board ws a zero h e = refl
-pieces-from board [] a (suc n) h e = absurd (omega arith)
-pieces-from board (w ∷ ws) a (suc n) h e =
-    let here : a + 4 * 0 ≡ a = omega arith in
-    ap₂ (λ (p : Piece) (ps : List Piece). p ∷ ps) (ap pieceOf (e 0 (omega arith) ∙ ap (wordAt board) here))
-    (pieces-from board ws (a + 4) n (omega arith) (λ i l. e (suc i) (omega arith) ∙ ap (wordAt board) (omega arith)))
-
-file-low : (board : List ℕ) → fileTracks board < 512
-unfolding fileTracks
-file-low board = header-small (wordAt board 0) .0
-
-file-few : (board : List ℕ) → fileCount board < wordPlaces
-unfolding fileCount
-file-few board = header-small (wordAt board 0) .1
-
--- the file is as long as its words
-pub file-long : (ch : Channel) (board scratch : List ℕ) (t n : ℕ) → PiecesReady ch board t n scratch
-    → (length board ≡ 4 + 4 * n) × (n < wordPlaces)
-file-long ch board scratch t n ready =
-    let e = ready .count in
-    let h = file-few board in
-    let l = opened-length board (ready .opens) in
-    (omega arith, omega arith)
-
-module _ (ch : Channel) (board words scratch : List ℕ) (t count : ℕ) (ready : PiecesReady ch board t count scratch)
-    (read : WordsRead board count words) where
-  few : count < wordPlaces
-  few = let e = ready .count in let h = file-few board in omega arith
-
-  -- the words' layout is the file's
-  layout-read : wordsLayout t (take count words) ≡ fileLayout board
-  unfolding wordsLayout fileLayout
-  layout-read =
-      let f = few in
-      let e = read .full in
-      ap₂ (λ (k : ℕ) (ps : List Piece). let l : Layout = record { tracks = k; pieces = ps } in l) (ready .tracks)
-      (pieces-from board words 4 count (omega arith) (read .word) ∙ ap (piecesFrom board 4) (ready .count))
-
-  on-grid : (i : ℕ) → i < count → OnGrid (width ch) t (pieceOf (getD words i 0))
-  unfolding wordsLayout
-  on-grid i l =
-      let f = few in
-      let e = read .full in
-      let long = length-take-le count words (omega arith) in
-      let there = Memᴰ·map pieceOf (getD-member (take count words) i (omega arith)) in
-      let listed = subst (λ (k : ℕ). List·Memᴰ (pieceOf k) (map pieceOf (take count words)))
-      (getD-take count words i 0 l) there in
-      subst (λ (w : ℕ). OnGrid w t (pieceOf (getD words i 0))) (ready .sameWidth)
-      (subst (λ (k : ℕ). OnGrid (fileWidth board) k (pieceOf (getD words i 0))) (sym (ready .tracks))
-      (opened-on-grid board (ready .opens) (pieceOf (getD words i 0))
-      (subst (λ (l : Layout). List·Memᴰ (pieceOf (getD words i 0)) (l .pieces)) layout-read listed)))
-
-  pub mark-ready : MarkReady (ch .top) (ch .bot) t words count scratch
-  mark-ready =
-      record {
-        narrow = ready .escapes .narrow;
-        even = ready .escapes .even;
-        low = let e = ready .tracks in let h = file-low board in omega arith;
-        few = few;
-        full = read .full;
-        room = let h = ready .room in omega arith;
-        onGrid = on-grid;
-      }
-
-  module _ (scratch′ : List ℕ) (kept : length scratch′ ≡ length scratch)
-      (marked : MarkedTo ch t words count scratch′) where
-    pub room-kept : width ch + width ch + count ≤ length scratch′
-    room-kept = let f = few in let h = ready .room in let w = ready .escapes .narrow in omega arith
-
-    pub fault-ready : FaultReady (ch .top) (ch .bot) (take (width ch + width ch + count) scratch′)
-    fault-ready =
-        let n = width ch + width ch + count in
-        let long = length-take-le n scratch′ room-kept in
-        record { escapes = ready .escapes; long = omega arith; marked = in-range }
-      where
-        ms : List ℕ
-        ms = take (width ch + width ch + count) scratch′
-
-        in-range : (i : ℕ) → i < length ms → (0 < getD ms i 0) × (getD ms i 0 < markPlaces)
-        in-range i l =
-            let f = few in
-            let w = ready .escapes .narrow in
-            let e = read .full in
-            let some-words = length-take-le count words (omega arith) in
-            let mem = subst (λ (l : List ℕ). List·Memᴰ (getD ms i 0) l) marked (getD-member ms i l) in
-            let r = word-marks-bounded ch t (take count words) (getD ms i 0) mem in
-            omega arith
-
-    pub file-marks : take (width ch + width ch + count) scratch′ ≡ marks ch (fileLayout board)
-    file-marks = marked ∙ ap (marks ch) layout-read
-
-  pub file-pieces : length (fileLayout board .pieces) ≡ count
-  unfolding wordsLayout
-  file-pieces =
-      let f = few in
-      let e = read .full in
-      sym (ap (λ (l : Layout). length (l .pieces)) layout-read) ∙ length-map (take count words) pieceOf
-      ∙ length-take-le count words (omega arith)
+use Rattle.judge.specs.Code.{Judged}
+use Rattle.judge.specs.FaultSteps.{foundOf}
+use Rattle.judge.specs.ElementSteps.{PiecesReady}
 
 -- what is found, as the answer
 pub found-nothing : (t : ℕ) (o : Option Fault) → found.Nothing ≡ foundOf o → Good t ≡ judged t o
@@ -275,10 +151,13 @@ module _ (ch : Channel) (board : List ℕ) (n : ℕ) where
         pieces-ready same scratch long =
             record {
               room = omega arith;
-              escapes = accepted-exactly ch .0 (rows-accepted ch accepted);
-              opens = open-board .opens;
-              sameWidth = sym (open-board .width) ∙ same;
-              tracks = open-board .tracks;
+              judgeable =
+                  record {
+                    escapes = accepted-exactly ch .0 (rows-accepted ch accepted);
+                    opens = open-board .opens;
+                    sameWidth = sym (open-board .width) ∙ same;
+                    tracks = open-board .tracks;
+                  };
               count = open-board .count;
             }
 

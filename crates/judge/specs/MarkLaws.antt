@@ -20,8 +20,8 @@ use Rattle.wiring.specs.Layouts.{Element, pin, copper, Present, Touching, AllOn
 use Rattle.wiring.specs.Chains.{touching-sym, joined-trans}
 use Rattle.judge.specs.Elements.{elements, elementsTouch}
 use Rattle.judge.specs.TouchTest.{test-sym, Placed, test→touching, touching→test}
-use Rattle.judge.specs.Classes.{Marked, marksOf, classes}
-use Rattle.judge.specs.ClassLaws.{Equivalence, Classed, classes-classed, classes-elements}
+use Rattle.classes.specs.Classes.{Marked, marksOf, classes}
+use Rattle.classes.specs.ClassLaws.{Equivalence, Classed, classes-classed, classes-elements}
 use Rattle.judge.specs.Finding.{marks}
 use Rattle.judge.specs.PinPlaces.{pinAt-top, pinAt-bot, positionOf, position-pinAt, pinAt-position}
 use Rattle.judge.specs.PinPlaces.{position-inside, pin-inside}
@@ -45,7 +45,7 @@ after-row row ch ys i =
     subst (λ (k : ℕ). getElem? (pinRow row ch ++ ys) (k + i) ≡ getElem? ys i) e (place-right (pinRow row ch) ys i)
 
 -- the pin place at position p, and the piece in place i
-pin-place : (ch : Channel) (l : Layout) (i : ℕ) → i < width ch + width ch
+pub pin-place : (ch : Channel) (l : Layout) (i : ℕ) → i < width ch + width ch
     → getElem? (elements ch l) i ≡ some (pin (pinAt ch (suc i)))
 unfolding elements pinRow
 pin-place ch l i h = elim (decLe (suc i) (width ch)) [ yes k ↦ on-top k | no k ↦ on-bot (omega arith) ]
@@ -68,7 +68,7 @@ pin-place ch l i h = elim (decLe (suc i) (width ch)) [ yes k ↦ on-top k | no k
         ap (getElem? (elements ch l)) here ∙ at-bot ∙ ap (λ (x : Pin). some (pin x))
         (sym (pinAt-bot ch (suc j) (omega arith)) ∙ ap (pinAt ch) (sym next))
 
-piece-place : (ch : Channel) (l : Layout) (i : ℕ) {q : Piece} → getElem? (l .pieces) i ≡ some q
+pub piece-place : (ch : Channel) (l : Layout) (i : ℕ) {q : Piece} → getElem? (l .pieces) i ≡ some q
     → getElem? (elements ch l) (width ch + width ch + i) ≡ some (copper q)
 unfolding elements pinRow
 piece-place ch l i e =
@@ -90,7 +90,7 @@ present→element ch l esc (pin x) h =
 present→element ch l esc (copper p) h =
     let r = member-place h in place-member (elements ch l) (width ch + width ch + r .0) (piece-place ch l (r .0) (r .1))
 
-element→placed : (ch : Channel) (l : Layout) (x : Element) → List·Memᴰ x (elements ch l) → Placed l x
+pub element→placed : (ch : Channel) (l : Layout) (x : Element) → List·Memᴰ x (elements ch l) → Placed l x
 unfolding elements pinRow
 element→placed ch l (pin x) h = tt
 element→placed ch l (copper p) h =

@@ -1,7 +1,7 @@
-// The box of grid points that a piece covers, read from the piece's word in the file, and whether two boxes touch.
+// The box of grid points that a piece covers, read from the piece's word in the file.
 ghost use mathlib.Core.Path.{_≡_};
 ghost use mathlib.Core.Bool.{cond};
-ghost use Rattle.judge.specs.Code.{boxOf, boxesTouch};
+ghost use Rattle.judge.specs.Code.{boxOf};
 use boardfile::Fields;
 use grid::BRANCH;
 use grid::CONTACT;
@@ -19,7 +19,7 @@ pub struct Cover {
 }
 
 // One of two numbers: without a jump, so that pieces in any order cost the same.
-fn pick(first: bool, a: u32, b: u32) -> u32
+pub fn pick(first: bool, a: u32, b: u32) -> u32
     ensures { λ r. ⌜ r ≡ cond first a b ⌝ }
 {
     if first { a } else { b }
@@ -44,23 +44,4 @@ pub fn cover_of(v: u32) -> Cover
         low: Row(pick(trunk, line, from)),
         high: Row(pick(trunk, line, pick(branch, to, from))),
     }
-}
-
-// Both have a common point, and their kinds meet.
-pub fn covers_touch(a: Cover, b: Cover) -> bool
-    ensures { λ r. ⌜ r ≡ boxesTouch a b ⌝ }
-{
-    if b.right.0 < a.left.0 {
-        return false;
-    }
-    if a.right.0 < b.left.0 {
-        return false;
-    }
-    if b.high.0 < a.low.0 {
-        return false;
-    }
-    if a.high.0 < b.low.0 {
-        return false;
-    }
-    grid::kinds_meet(a.kind, b.kind)
 }

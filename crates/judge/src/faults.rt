@@ -1,15 +1,16 @@
-// What is wrong, read off the marks: shorts, then opens, then floating copper, each at its lowest place.
+// What is wrong, read off the classes: shorts, then opens, then floating copper, each at its lowest place. An element's
+// low half is its class, a root; and the high half of a root is the net of the class's pins, 0 until one is met.
 ghost use mathlib.Core.Path.{_≡_};
 ghost use mathlib.Core.List.{_++_};
 ghost use Prim.Native.Nat.{ℕ, suc, _+_, _≤_, _<_};
-ghost use lib.ListN.{length, getD, take};
+ghost use lib.ListN.{length, getD};
 ghost use Rattle.lists.specs.Lists.{headOr};
-ghost use Rattle.judge.specs.Finding.{opens};
+ghost use Rattle.classes.specs.Halves.{half};
 ghost use Rattle.channel.specs.Channel.{highestNet, rows};
-ghost use Rattle.judge.specs.Code.{markPlaces};
-ghost use Rattle.judge.specs.FaultSteps.{Blank, Claimed, FaultReady, ShortFound, FirstFloating, Finds};
+ghost use Rattle.judge.specs.Finding.{opens};
+ghost use Rattle.judge.specs.FaultSteps.{Blank, Claimed, ClassClaimed, FaultReady, ShortFound, FirstFloating};
+ghost use Rattle.judge.specs.FaultSteps.{Finds, marksIn, ownersIn};
 use crate::Fault;
-use crate::MARKS;
 use grid::NET_SLOTS;
 
 // What is found.
@@ -48,17 +49,41 @@ fn claim(table: &mut [u32], pin: bool, at: usize, value: u32) -> bool
     false
 }
 
-// The lowest position, from 1, of a pin joined to an earlier pin of another net, or 0 if there is none. `owners` gets
-// for each mark the net of its pins.
-fn first_short(top: &[u32], bot: &[u32], marks: &[u32], owners: &mut [u32]) -> usize
-    requires { ⌜ FaultReady (now top) (now bot) (now marks) × Blank markPlaces (now owners) ⌝ }
+// The pin at place i claims its class for its net, as it claims a place of a table.
+fn claim_class(scratch: &mut [u32], pin: bool, i: usize, net: u32) -> bool
+    requires { ⌜ (i < length (now scratch))
+        × (getD (marksIn (now scratch)) i 0 ≤ length (now scratch))
+        × (length (now scratch) ≤ half)
+        × (net < half) ⌝ }
+    ensures { λ r. ⌜ ClassClaimed (now (scratch .entry)) pin i net r (now (scratch .exit)) ⌝ }
+{
+    if !pin {
+        return true;
+    }
+    let root = classes::low(scratch[i]) as usize;
+    let number = scratch[root];
+    let owner = classes::high(number);
+    if owner == 0 {
+        scratch[root] = classes::number(classes::low(number), net);
+        return true;
+    }
+    if owner == net {
+        return true;
+    }
+    false
+}
+
+// The lowest position, from 1, of a pin joined to an earlier pin of another net, or 0 if there is none. Each class gets
+// the net of its pins.
+fn first_short(top: &[u32], bot: &[u32], scratch: &mut [u32]) -> usize
+    requires { ⌜ FaultReady (now top) (now bot) (now scratch) × ((m : ℕ) → getD (ownersIn (now scratch)) m 0 ≡ 0) ⌝ }
     ensures { λ r.
-        ⌜ ShortFound (rows (now (top .entry)) (now (bot .entry))) (now (marks .entry)) r (now (owners .exit)) ⌝ }
+        ⌜ ShortFound (rows (now (top .entry)) (now (bot .entry))) (now (scratch .entry)) r (now (scratch .exit)) ⌝ }
 {
     let mut i: usize = 0;
     while i < top.len() + top.len() {
         let net = net_at(top, bot, i);
-        if !claim(owners, net != 0, marks[i] as usize, net) {
+        if !claim_class(scratch, net != 0, i, net) {
             return i + 1;
         }
         i += 1;
@@ -67,16 +92,16 @@ fn first_short(top: &[u32], bot: &[u32], marks: &[u32], owners: &mut [u32]) -> u
 }
 
 // The lowest position, from 1, of a pin not joined to its net's first pin, or 0 if there is none. `firsts` gets for
-// each net the mark of its first pin.
-fn first_open(top: &[u32], bot: &[u32], marks: &[u32], firsts: &mut [u32]) -> usize
-    requires { ⌜ FaultReady (now top) (now bot) (now marks) × Blank (suc highestNet) (now firsts) ⌝ }
+// each net the class of its first pin, counted from 1.
+fn first_open(top: &[u32], bot: &[u32], scratch: &[u32], firsts: &mut [u32]) -> usize
+    requires { ⌜ FaultReady (now top) (now bot) (now scratch) × Blank (suc highestNet) (now firsts) ⌝ }
     ensures { λ r.
-        ⌜ r ≡ headOr 0 (opens (rows (now (top .entry)) (now (bot .entry))) (now (marks .entry))) ⌝ }
+        ⌜ r ≡ headOr 0 (opens (rows (now (top .entry)) (now (bot .entry))) (marksIn (now (scratch .entry)))) ⌝ }
 {
     let mut i: usize = 0;
     while i < top.len() + top.len() {
         let net = net_at(top, bot, i);
-        if !claim(firsts, net != 0, net as usize, marks[i]) {
+        if !claim(firsts, net != 0, net as usize, classes::low(scratch[i]) + 1) {
             return i + 1;
         }
         i += 1;
@@ -84,45 +109,40 @@ fn first_open(top: &[u32], bot: &[u32], marks: &[u32], firsts: &mut [u32]) -> us
     0
 }
 
-// The number of the lowest piece joined to no pin, or 0 if there is none.
-fn first_floating(marks: &[u32], base: usize, count: usize, owners: &[u32]) -> usize
-    requires { ⌜ (length (now marks) ≡ base + count)
-        × ((i : ℕ) → i < length (now marks) → getD (now marks) i 0 < length (now owners)) ⌝ }
-    ensures { λ r. ⌜ FirstFloating (now (marks .entry)) base count (now (owners .entry)) r ⌝ }
+// The number of the lowest piece joined to no pin, or 0 if there is none; the pieces stand from place `base` on.
+fn first_floating(scratch: &[u32], base: usize) -> usize
+    requires { ⌜ (base ≤ length (now scratch))
+        × ((i : ℕ) → i < length (now scratch) → getD (marksIn (now scratch)) i 0 ≤ length (now scratch)) ⌝ }
+    ensures { λ r.
+        ⌜ FirstFloating (marksIn (now (scratch .entry))) base (ownersIn (now (scratch .entry))) r ⌝ }
 {
-    let mut j: usize = 0;
-    while j < count {
-        if owners[marks[base + j] as usize] == 0 {
-            return j + 1;
+    let mut i = base;
+    while i < scratch.len() {
+        let root = classes::low(scratch[i]) as usize;
+        if classes::high(scratch[root]) == 0 {
+            return i - base + 1;
         }
-        j += 1;
+        i += 1;
     }
     0
 }
 
-// The first fault, in rising number, of the pin places and the first `count` pieces, whose marks stand at the front of
-// `marks`.
-pub fn find_fault(top: &[u32], bot: &[u32], marks: &[u32], count: usize) -> Found
-    requires { ⌜ (length (now top) + length (now top) + count ≤ length (now marks))
-        × FaultReady (now top) (now bot) (take (length (now top) + length (now top) + count) (now marks)) ⌝ }
+// The first fault, in rising number, of the pin places and the pieces whose classes stand in `scratch`.
+pub fn find_fault(top: &[u32], bot: &[u32], scratch: &mut [u32]) -> Found
+    requires { ⌜ FaultReady (now top) (now bot) (now scratch) × ((m : ℕ) → getD (ownersIn (now scratch)) m 0 ≡ 0) ⌝ }
     ensures { λ r.
-        ⌜ Finds (rows (now (top .entry)) (now (bot .entry)))
-        (take (length (now (top .entry)) + length (now (top .entry)) + count) (now (marks .entry))) count r ⌝ }
+        ⌜ Finds (rows (now (top .entry)) (now (bot .entry))) (now (scratch .entry)) r ⌝ }
 {
-    let base = top.len() + top.len();
-    let n = base + count;
-    let all = &marks[..n];
-    let mut owners = [0u32; MARKS];
-    let short = first_short(top, bot, all, &mut owners);
+    let short = first_short(top, bot, scratch);
     if short != 0 {
         return Found::Fault(Fault::Short(short));
     }
     let mut firsts = [0u32; NET_SLOTS];
-    let open = first_open(top, bot, all, &mut firsts);
+    let open = first_open(top, bot, scratch, &mut firsts);
     if open != 0 {
         return Found::Fault(Fault::Open(open));
     }
-    let floating = first_floating(all, base, count, &owners);
+    let floating = first_floating(scratch, top.len() + top.len());
     if floating != 0 {
         return Found::Fault(Fault::Floating(floating));
     }

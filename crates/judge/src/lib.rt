@@ -1,26 +1,19 @@
 // The judge of a board file against the rows of a channel.
 ghost use mathlib.Core.Path.{_≡_};
-ghost use Prim.Native.Nat.{_+_, _*_, _<_};
-ghost use lib.ListN.{length};
 ghost use Rattle.boardfile.specs.Open.{fileLayout};
 ghost use Rattle.judge.specs.Finding.{finding};
 ghost use Rattle.judge.specs.Answers.{judged, faultNumber, faultPlace};
-ghost use Rattle.judge.specs.Code.{wordPlaces, Judged};
+ghost use Rattle.judge.specs.Code.{Judged};
 ghost use Rattle.channel.specs.Channel.{rows};
-ghost use Rattle.judge.specs.JudgeSteps.{WordsRead, PiecesReady};
+ghost use Rattle.judge.specs.ElementSteps.{ElementsReady, PiecesReady};
 
 mod boxes;
-mod classes;
 mod faults;
+mod lines;
+mod ranges;
 
 use refusal::Refusal;
 use refusal::SCRATCH_TRAY;
-
-// The judge's own tables: a place for the word of each piece, of which the header's 12 bits count up to 4,095; and one
-// for each mark, 1 to 5,119, since there are 1,024 pin places, two rows of 512, and 4,095 pieces.
-const WORDS: usize = 4096;
-
-const MARKS: usize = 5120;
 
 // What is wrong with a board, each with its place.
 pub enum Fault {
@@ -62,15 +55,27 @@ pub fn fault_place(fault: Fault) -> usize
     }
 }
 
-// The words of the file's pieces, at the front of `words`.
-fn read_words(board: &[u8], count: usize, words: &mut [u32; WORDS])
-    requires { ⌜ (length (now board) ≡ 4 + 4 * count) × (count < wordPlaces) × (length (now words) ≡ wordPlaces) ⌝ }
-    ensures { λ _. ⌜ WordsRead (now (board .entry)) count (now (words .exit)) ⌝ }
+// Judges the elements of a board, its pin places and pieces, with a number of scratch for each.
+fn judge_elements(
+    top: &[u32],
+    bot: &[u32],
+    board: &[u8],
+    tracks: u32,
+    scratch: &mut [u32],
+) -> JudgeAnswer
+    requires { ⌜ ElementsReady (rows (now top) (now bot)) (now board) tracks (now scratch) ⌝ }
+    ensures { λ r.
+        ⌜ r ≡ judged tracks (finding (rows (now (top .entry)) (now (bot .entry))) (fileLayout (now (board .entry)))) ⌝ }
 {
-    let mut i: usize = 0;
-    while i < count {
-        words[i] = boardfile::word_at(board, 4 + 4 * i);
-        i += 1;
+    let width = top.len();
+    let rows = tracks as usize + 2;
+    classes::alone(scratch);
+    lines::join_on(top, bot, board, tracks, false, width + 1, rows, scratch);
+    lines::join_on(top, bot, board, tracks, true, rows - 1, width + 1, scratch);
+    classes::flatten(scratch);
+    match faults::find_fault(top, bot, scratch) {
+        faults::Found::Nothing => JudgeAnswer::Good(tracks),
+        faults::Found::Fault(fault) => JudgeAnswer::Faulty(fault),
     }
 }
 
@@ -87,18 +92,13 @@ fn judge_pieces(
     ensures { λ r.
         ⌜ r ≡ judged tracks (finding (rows (now (top .entry)) (now (bot .entry))) (fileLayout (now (board .entry)))) ⌝ }
 {
-    let mut words = [0u32; WORDS];
-    read_words(board, count, &mut words);
-    classes::mark_classes(top, bot, tracks, &words, count, scratch);
-    match faults::find_fault(top, bot, scratch, count) {
-        faults::Found::Nothing => JudgeAnswer::Good(tracks),
-        faults::Found::Fault(fault) => JudgeAnswer::Faulty(fault),
-    }
+    let n = top.len() + top.len() + count;
+    judge_elements(top, bot, board, tracks, &mut scratch[..n])
 }
 
 // Judges a board file of any bytes against rows of any lengths and numbers, tangled channels included. Scratch, of at
-// least 10,238 numbers, may hold anything afterwards, at its old length. At worst each piece is compared with all
-// before it.
+// least 5,119 numbers, may hold anything afterwards, at its old length. The cost grows little faster than the pieces and
+// the grid's lines and places.
 pub fn judge(top: &[u32], bot: &[u32], board: &[u8], scratch: &mut [u32]) -> JudgeAnswer
     ensures { λ r.
         ⌜ Judged (rows (now (top .entry)) (now (bot .entry))) (now (board .entry)) (now (scratch .entry)) r

@@ -2,7 +2,7 @@
 use Prim.Native.Nat.{ℕ, zero, suc, _+_, _≤_, _<_}
 use native.Mathlib.Omega.{arith}
 use native.Mathlib.Nat.{add-suc, suc-add}
-use mathlib.Core.Path.{_≡_, refl, _∙_, ap}
+use mathlib.Core.Path.{_≡_, refl, _∙_, ap, ap₂}
 use mathlib.Core.List.{List, [], _∷_, _++_, map}
 use mathlib.Core.Bool.{Bool, true, false, cond, _&&_}
 use mathlib.Core.Option.{some}
@@ -58,6 +58,17 @@ unfolding from
 place-from a zero i h = absurd (omega arith)
 place-from a (suc n) zero h = ap some (omega arith)
 place-from a (suc n) (suc i) h = place-from (suc a) n i (omega arith) ∙ ap some (omega arith)
+
+-- a list whose places hold what f gives for their numbers
+pub named-by-place : {A : Type 0} (f : ℕ → A) (a : ℕ) (xs : List A) → ((i : ℕ) → i < length xs
+    → getElem? xs i ≡ some (f (a + i))) → xs ≡ map f (from a (length xs))
+unfolding from
+named-by-place f a [] h = refl
+named-by-place f a (x ∷ xs) h =
+    let head : some x ≡ some (f (a + 0)) = h 0 (omega arith) in
+    let here : x ≡ f (a + 0) = cc in
+    let rest = named-by-place f (suc a) xs (λ i l. h (suc i) (omega arith) ∙ ap (λ (k : ℕ). some (f k)) (omega arith)) in
+    ap₂ (λ y ys. y ∷ ys) (here ∙ ap f (omega arith)) rest
 
 -- the same for `at`, which counts from 1
 pub at-place : (xs : List ℕ) (i : ℕ) {x : ℕ} → getElem? xs i ≡ some x → at xs (suc i) ≡ x

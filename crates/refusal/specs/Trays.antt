@@ -21,7 +21,7 @@ abbrev pub boardTray : ℕ
 boardTray = 10240
 
 abbrev pub scratchTray : ℕ
-scratchTray = 10238
+scratchTray = 5119
 
 -- a buffer that the operation writes: the length lent, and the length needed
 pub record Tray : Type 0 where

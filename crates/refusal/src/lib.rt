@@ -11,7 +11,7 @@ pub const RING_TRAY: usize = 1022;
 
 pub const BOARD_TRAY: usize = 10240;
 
-pub const SCRATCH_TRAY: usize = 10238;
+pub const SCRATCH_TRAY: usize = 5119;
 
 // The refusals that an operation may answer, by the shop's words, each with its place. Number 6 is not in use.
 // The judge's faults, numbers 11 to 13, are an enum of their own beside the judge.

@@ -1,0 +1,14 @@
+pub mod Halves
+pub mod Forest
+pub mod Lines
+pub mod Sweep
+pub mod ForestLaws
+pub mod FlatLaws
+pub mod GrowLaws
+pub mod ChainLaws
+pub mod SweepLaws
+pub mod LineLaws
+pub mod JoinLaws
+pub mod Classes
+pub mod ClassLaws
+pub mod PlaceClasses
