@@ -1,4 +1,4 @@
-/* Both sides on the same inputs: the answers and all lent memory but the scratch must be the same. */
+/* All sides on the same inputs: the answers and all lent memory but the scratch must be the same. */
 #include "agree.h"
 
 #include <inttypes.h>
@@ -16,7 +16,7 @@ static void compare(const char *name, enum operation operation, const struct inp
 {
     uint64_t answers[SIDES];
     uint32_t which = shorten ? below(5) : 5;
-    for (enum side side = 0; side < SIDES; side++) {
+    for (enum side side = 0; side < sides_of(operation); side++) {
         struct lent *lent = &lents[side];
         size_t *lengths[] = {&lent->top_length, &lent->bot_length, &lent->ring_length, &lent->board_length,
                              &lent->scratch_length};
@@ -28,11 +28,13 @@ static void compare(const char *name, enum operation operation, const struct inp
     }
     calls++;
     accepted += answers[RATTLE] >> 32 == 0;
-    if (answers[RATTLE] == answers[PLAIN_C] && memcmp(&lents[RATTLE], &lents[PLAIN_C], sizeof lents[RATTLE]) == 0)
-        return;
-    differing++;
-    printf("differs: %s of %s: rattle %" PRIx64 ", c %" PRIx64 "\n", operation_names[operation], name, answers[RATTLE],
-           answers[PLAIN_C]);
+    for (enum side side = PLAIN_C; side < sides_of(operation); side++) {
+        if (answers[RATTLE] == answers[side] && memcmp(&lents[RATTLE], &lents[side], sizeof lents[RATTLE]) == 0)
+            continue;
+        differing++;
+        printf("differs: %s of %s: rattle %" PRIx64 ", %s %" PRIx64 "\n", operation_names[operation], name,
+               answers[RATTLE], side_names[side], answers[side]);
+    }
 }
 
 static void compare_all(const char *name, const struct input *in, bool shorten)
@@ -87,6 +89,8 @@ bool agree(unsigned long rounds)
         snprintf(name, sizeof name, "random input %lu", i + 1);
         random_input(&input);
         compare_all(name, &input, below(30) == 0);
+        crowd_file(&input);
+        compare(name, JUDGE, &input, false);
         garble(&input);
         compare(name, READ, &input, false);
         damage_table(&input);

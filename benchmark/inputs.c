@@ -8,6 +8,7 @@
 
 const char *const shape_names[SHAPES] = {
     "example-B", "dense", "padded", "chain", "fullest", "ring-255", "ring-511", "file-4095", "file-4095-mixed",
+    "one-column", "one-track", "one-point",
 };
 
 /* Nets one inside the other, no two in a column: the density is half the width. */
@@ -95,6 +96,22 @@ static void shuffle_file(struct input *in)
     }
 }
 
+/* The pieces of a full file are random ones of one line, or one contact. */
+static void crowd_line(enum shape shape, struct input *in)
+{
+    seed(shape);
+    uint32_t tracks = tracks_of(in), middle = tracks / 2 + 1, width = (uint32_t)in->top_length;
+    for (uint32_t i = 0; i < 4095; i++) {
+        uint32_t low = below(tracks + 1), first = 1 + below(width - 1);
+        if (shape == ONE_COLUMN)
+            put_piece(in, i, 1, width / 2, low, low + 1 + below(tracks + 1 - low));
+        else if (shape == ONE_TRACK)
+            put_piece(in, i, 0, middle, first, first + 1 + below(width - first));
+        else
+            put_piece(in, i, 2, width / 2, middle, middle);
+    }
+}
+
 void write_shape(enum shape shape, struct input *in)
 {
     if (shape == PADDED)
@@ -112,6 +129,8 @@ void make_input(enum shape shape, size_t width, struct input *in)
         fill_file(in);
     if (shape == MIXED_FILE)
         shuffle_file(in);
+    if (shape >= ONE_COLUMN)
+        crowd_line(shape, in);
     stock_table(in);
 }
 
@@ -120,6 +139,11 @@ bool measured_on(enum operation operation, enum shape shape)
     if (shape == PADDED) /* the other operations take rows */
         return operation == READ;
     return operation == JUDGE ? shape < RING_255 || shape >= FULL_FILE : shape < FULL_FILE;
+}
+
+uint32_t tracks_of(const struct input *in)
+{
+    return (in->file[1] & 63u) << 3 | in->file[2] >> 5;
 }
 
 size_t pieces_of(const struct input *in)

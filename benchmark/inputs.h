@@ -6,14 +6,28 @@
 
 #include "sides.h"
 
-/* What is measured. The padded one is the dense one as another text; the last two are boards alone. */
-enum shape { EXAMPLE_B, DENSE, PADDED, CHAIN, FULLEST, RING_255, RING_511, FULL_FILE, MIXED_FILE, SHAPES };
+/* What is measured. The padded one is the dense one as another text; those from the full file on are boards alone. */
+enum shape {
+    EXAMPLE_B,
+    DENSE,
+    PADDED,
+    CHAIN,
+    FULLEST,
+    RING_255,
+    RING_511,
+    FULL_FILE,
+    MIXED_FILE,
+    ONE_COLUMN,
+    ONE_TRACK,
+    ONE_POINT,
+    SHAPES
+};
 
 extern const char *const shape_names[SHAPES];
 
 /* Makes an input of a shape on so many columns (example B has its own width). Its file is the board that the router
- * draws; the shapes that are boards alone repeat the fullest board's pieces up to 4,095, and the mixed one shuffles
- * them. Its table is the stock. */
+ * draws; the shapes that are boards alone have 4,095 pieces: the fullest board's, repeated; the same shuffled; branches
+ * of one column; trunks of one track; or one contact again and again. Its table is the stock. */
 void make_input(enum shape shape, size_t width, struct input *input);
 
 /* Writes the rows of an input as the text that a shape has: the padded one in columns of four, with a carriage return
@@ -23,8 +37,13 @@ void write_shape(enum shape shape, struct input *input);
 /* Whether an operation is measured on a shape. */
 bool measured_on(enum operation operation, enum shape shape);
 
-/* The number of pieces of an input's board file. */
+/* The tracks and the number of pieces of an input's board file. */
+uint32_t tracks_of(const struct input *input);
+
 size_t pieces_of(const struct input *input);
+
+/* Puts a piece's word in the place of the piece of index i of an input's board file. */
+void put_piece(struct input *input, uint32_t i, uint32_t kind, uint32_t line, uint32_t from, uint32_t to);
 
 /* A number below n, from a seeded row of numbers. */
 uint32_t below(uint32_t n);
@@ -46,6 +65,10 @@ void random_table(struct input *input);
  * damaged more often than not. More often than not the text has runs of spaces, or carriage returns where lines end.
  * Its table is a random one. */
 void random_input(struct input *input);
+
+/* Puts pieces crowded on few lines in place of an input's board file: ranges one in the other, equal ones, ones that end
+ * where the next starts, contacts at their ends, branches to both rows of pins; one in eight has no track. */
+void crowd_file(struct input *input);
 
 /* Changes or cuts the text of an input: spaces, carriage returns and tabs come where they belong and where they do
  * not. */

@@ -3,8 +3,9 @@
  *   agree ROUNDS     compares both sides; the exit status is 1 if they differ
  *   facts            INPUT shape columns pieces bounds route: the size of each input and what the library answers,
  *                    number and value
- *   time SECONDS     TIME operation shape columns nanoseconds of Rattle and of C, about so many seconds each; then
- *                    GROWTH, with the same fields, on 64 to 512 columns
+ *   time SECONDS     TIME operation shape columns nanoseconds of Rattle, of C and, where there is one, of the pairwise
+ *                    version, else 0; about so many seconds each; then GROWTH, with the same fields, on 64 to 512
+ *                    columns
  *   count            COUNT operation shape side, in the order of the calls of `measured`: one call each, for
  *                    valgrind to count
  *   one SIDE OPERATION SHAPE REPEATS
@@ -41,22 +42,23 @@ static int facts(void)
 }
 
 static void print_time(const char *word, enum operation operation, enum shape shape, size_t columns,
-                       const double medians[SIDES])
+                       const double medians[PAIRWISE], double pairwise)
 {
-    printf("%s %s %s %zu %.1f %.1f\n", word, operation_names[operation], shape_names[shape], columns, medians[RATTLE],
-           medians[PLAIN_C]);
+    printf("%s %s %s %zu %.1f %.1f %.1f\n", word, operation_names[operation], shape_names[shape], columns,
+           medians[RATTLE], medians[PLAIN_C], pairwise);
 }
 
 /* Times an operation on four widths by turns. */
 static void time_growth(enum operation operation, enum shape shape, double seconds)
 {
     static struct input inputs[SERIES];
-    double medians[SERIES][SIDES];
+    double medians[SERIES][PAIRWISE];
     for (size_t k = 0; k < SERIES; k++)
         make_input(shape, (size_t)64 << k, &inputs[k]);
     measure(operation, inputs, SERIES, seconds, medians);
     for (size_t k = 0; k < SERIES; k++)
-        print_time("GROWTH", operation, shape, inputs[k].top_length, medians[k]);
+        print_time("GROWTH", operation, shape, inputs[k].top_length, medians[k],
+                   sides_of(operation) > PAIRWISE ? measure_pairwise(operation, &inputs[k]) : 0);
 }
 
 static int time_all(double seconds)
@@ -64,10 +66,11 @@ static int time_all(double seconds)
     for (enum operation operation = 0; operation < MEASURED; operation++)
         for (enum shape shape = 0; shape < SHAPES; shape++)
             if (measured_on(operation, shape)) {
-                double medians[1][SIDES];
+                double medians[1][PAIRWISE];
                 make_input(shape, 512, &input);
                 measure(operation, &input, 1, seconds, medians);
-                print_time("TIME", operation, shape, input.top_length, medians[0]);
+                print_time("TIME", operation, shape, input.top_length, medians[0],
+                           sides_of(operation) > PAIRWISE ? measure_pairwise(operation, &input) : 0);
             }
     for (enum operation operation = BOUNDS; operation < MEASURED; operation++) {
         time_growth(operation, DENSE, SERIES * seconds);
@@ -82,7 +85,7 @@ static int count_all(void)
         for (enum shape shape = 0; shape < SHAPES; shape++)
             if (measured_on(operation, shape)) {
                 make_input(shape, 512, &input);
-                for (enum side side = 0; side < SIDES; side++) {
+                for (enum side side = 0; side < PAIRWISE; side++) {
                     lend(&lent);
                     call(side, operation, &input, &lent); /* so that finding the C library's functions is not counted */
                     measured(side, operation, &input, &lent);

@@ -52,24 +52,33 @@ static size_t batch_size(enum operation operation, const struct input *input, do
 }
 
 void measure(enum operation operation, const struct input *inputs, size_t count, double seconds,
-             double medians[][SIDES])
+             double medians[][PAIRWISE])
 {
-    static double times[SERIES][SIDES][MOST];
+    static double times[SERIES][PAIRWISE][MOST];
     size_t repeats[SERIES];
     double turn = 0, once;
     for (size_t k = 0; k < count; k++) {
         repeats[k] = batch_size(operation, &inputs[k], &once);
-        turn += SIDES * once;
+        turn += PAIRWISE * once;
     }
     double wanted = seconds / turn;
     size_t rounds = wanted < FEWEST ? FEWEST : wanted > MOST ? MOST : (size_t)wanted;
     for (size_t i = 0; i < rounds; i++)
         for (size_t k = 0; k < count; k++)
-            for (enum side side = 0; side < SIDES; side++)
+            for (enum side side = 0; side < PAIRWISE; side++)
                 times[k][side][i] = batch(side, operation, &inputs[k], repeats[k]);
     for (size_t k = 0; k < count; k++)
-        for (enum side side = 0; side < SIDES; side++) {
+        for (enum side side = 0; side < PAIRWISE; side++) {
             qsort(times[k][side], rounds, sizeof(double), rising);
             medians[k][side] = times[k][side][rounds / 2] / (double)repeats[k] * 1e9;
         }
+}
+
+double measure_pairwise(enum operation operation, const struct input *input)
+{
+    double times[FEWEST];
+    for (size_t i = 0; i < FEWEST; i++)
+        times[i] = batch(PAIRWISE, operation, input, 1);
+    qsort(times, FEWEST, sizeof(double), rising);
+    return times[FEWEST / 2] * 1e9;
 }

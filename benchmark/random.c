@@ -99,8 +99,7 @@ static void random_text(struct input *in)
         lengthen_runs(in);
 }
 
-/* Puts a piece's word in the place of the piece of index i. */
-static void put_piece(struct input *in, uint32_t i, uint32_t kind, uint32_t line, uint32_t from, uint32_t to)
+void put_piece(struct input *in, uint32_t i, uint32_t kind, uint32_t line, uint32_t from, uint32_t to)
 {
     uint32_t v = kind << 30 | (line & 1023) << 20 | (from & 1023) << 10 | (to & 1023);
     for (int k = 0; k < 4; k++)
@@ -120,7 +119,7 @@ static void nudge_piece(struct input *in, uint32_t i)
 /* Puts any piece of the grid in the place of the piece of index i. */
 static void replace_piece(struct input *in, uint32_t i)
 {
-    uint32_t width = (uint32_t)in->top_length, tracks = (in->file[1] & 63u) << 3 | in->file[2] >> 5;
+    uint32_t width = (uint32_t)in->top_length, tracks = tracks_of(in);
     uint32_t low = below(tracks + 1), first = 1 + below(width), track = 1 + below(tracks + 1);
     switch (below(3)) {
     case 0:
@@ -155,7 +154,7 @@ static void remove_piece(struct input *in, uint32_t i)
  * or lies on a parked pin alone and is good. */
 static void add_branch(struct input *in)
 {
-    uint32_t width = (uint32_t)in->top_length, tracks = (in->file[1] & 63u) << 3 | in->file[2] >> 5;
+    uint32_t width = (uint32_t)in->top_length, tracks = tracks_of(in);
     if (width == 0)
         return;
     uint32_t i = (uint32_t)pieces_of(in), row = below(tracks + 1), column = 1 + below(width);
@@ -185,6 +184,32 @@ static void damage_file(struct input *in)
     } else {
         replace_piece(in, below(pieces));
     }
+}
+
+/* A piece on one of few lines of a grid, with its ends among few places. */
+static void put_crowded(struct input *in, uint32_t i, uint32_t width, uint32_t tracks)
+{
+    uint32_t columns = width < 3 ? width : 3, lines = tracks < 3 ? tracks : 3, kind = below(3);
+    uint32_t low = below(tracks + 1), first = 1 + below(width), row = 1 + below(lines == 0 ? 1 : lines);
+    if (kind == 0 && tracks > 0 && first < width)
+        put_piece(in, i, 0, row, first, first + 1 + below(width - first));
+    else if (kind == 2 && tracks > 0)
+        put_piece(in, i, 2, 1 + below(columns), row, row);
+    else
+        put_piece(in, i, 1, 1 + below(columns), low, low + 1 + below(tracks + 1 - low));
+}
+
+void crowd_file(struct input *in)
+{
+    uint32_t width = (uint32_t)in->top_length, tracks = below(8) == 0 ? 0 : 1 + below(9), count = below(40);
+    if (width == 0 || width > 512)
+        return;
+    uint32_t head = width << 22 | tracks << 13 | count << 1;
+    for (int k = 0; k < 4; k++)
+        in->file[k] = (uint8_t)(head >> (24 - 8 * k));
+    for (uint32_t i = 0; i < count; i++)
+        put_crowded(in, i, width, tracks);
+    in->file_length = 4 + 4 * count;
 }
 
 void random_input(struct input *in)

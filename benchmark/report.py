@@ -15,7 +15,8 @@ import tempfile
 from pathlib import Path
 
 RATIO_GOAL = 1.10
-TIME_GOALS = {"bounds": 40e3, "route": 300e3, "judge": 60e6}  # nanoseconds, of any input
+TIME_GOALS = {"bounds": 40e3, "route": 300e3, "judge": 1e6}  # nanoseconds, of any input
+PAIRWISE_GOAL = 25  # how many times longer the pairwise judge takes on each board of 4,095 pieces, at least
 GROWTH_GOALS = {"bounds": 1.2}  # the power of the width, from 64 to 512 columns
 WIDTHS = (64, 128, 256, 512)
 SHAPES = {  # the name and what it is
@@ -28,7 +29,11 @@ SHAPES = {  # the name and what it is
     "ring-511": ("ring of 511", "the same of 511 nets, the largest ring"),
     "file-4095": ("4,095 pieces", "the fullest channel's pieces, repeated up to what a file holds"),
     "file-4095-mixed": ("4,095 pieces, mixed", "the same in random order"),
+    "one-column": ("4,095 in a column", "branches of one column, their ends at random"),
+    "one-track": ("4,095 on a track", "trunks of one track, their ends at random"),
+    "one-point": ("4,095 at a point", "one contact again and again"),
 }
+FULL_FILES = ("file-4095", "file-4095-mixed", "one-column", "one-track", "one-point")
 GROWING = {"dense": "nested nets", "fullest": "fullest channel"}  # measured on fewer columns too
 
 
@@ -50,20 +55,21 @@ def processor():
 
 
 def times_of(programs, seconds):
-    """Nanoseconds of both sides, by operation and shape; and the growth, by operation, shape and columns."""
+    """Nanoseconds of Rattle, C and the pairwise version, 0 where there is none, by operation and shape; and the growth,
+    by operation, shape and columns."""
     medians, growth = {}, {}
     for program in programs:
-        for word, operation, shape, columns, rattle, plain in lines_of([program, "time", str(seconds)]):
-            pair = float(rattle), float(plain)
+        for word, operation, shape, columns, *times in lines_of([program, "time", str(seconds)]):
+            sides = tuple(map(float, times))
             if word == "TIME":
-                medians.setdefault((operation, shape), []).append(pair)
+                medians.setdefault((operation, shape), []).append(sides)
             else:
-                growth.setdefault((operation, shape, int(columns)), []).append(pair)
+                growth.setdefault((operation, shape, int(columns)), []).append(sides)
     return means(medians), means(growth)
 
 
-def means(pairs):
-    return {key: tuple(map(statistics.fmean, zip(*some))) for key, some in pairs.items()}
+def means(sides):
+    return {key: tuple(map(statistics.fmean, zip(*some))) for key, some in sides.items()}
 
 
 def counts_of(program):
@@ -109,13 +115,14 @@ def print_inputs(program):
 
 
 def print_times(times, counts):
-    print_row("Operation", "Input", "Rattle", "C", "Ratio", "Instructions, Rattle", "C", "Ratio")
-    print("|---|---|---:|---:|---:|---:|---:|---:|")
-    for (operation, shape), (rattle, plain) in times.items():
-        fields = [operation, name(shape), spell(rattle), spell(plain), f"{rattle / plain:.2f}", "", "", ""]
+    print_row("Operation", "Input", "Rattle", "C", "Ratio", "C, pairwise", "Instructions, Rattle", "C", "Ratio")
+    print("|---|---|---:|---:|---:|---:|---:|---:|---:|")
+    for (operation, shape), (rattle, plain, pairwise) in times.items():
+        fields = [operation, name(shape), spell(rattle), spell(plain), f"{rattle / plain:.2f}",
+                  spell(pairwise) if pairwise else "", "", "", ""]
         if (operation, shape) in counts:
             a, b = counts[operation, shape]
-            fields[5:] = f"{a:,}", f"{b:,}", f"{a / b:.2f}"
+            fields[6:] = f"{a:,}", f"{b:,}", f"{a / b:.2f}"
         print_row(*fields)
     print()
 
@@ -132,16 +139,17 @@ def print_growth(growth):
     print("|---|---|---|" + "---:|" * (len(WIDTHS) + 1))
     for operation in ("bounds", "route", "judge"):
         for shape, label in GROWING.items():
-            for side, who in enumerate(("Rattle", "C")):
+            for side, who in enumerate(("Rattle", "C", "C, pairwise")):
                 values = [growth[operation, shape, width][side] for width in WIDTHS]
-                print_row(operation, label, who, *map(spell, values), f"{exponent(values):.2f}")
+                if all(values):
+                    print_row(operation, label, who, *map(spell, values), f"{exponent(values):.2f}")
     print()
 
 
 def print_ratio_goal(what, pairs):
     """Says where Rattle takes too much; a key is an operation, a shape and, where the growth is meant, the columns."""
     over = [f"{operation} of {name(shape)}{''.join(f' on {columns} columns' for columns in width)} {rattle / plain:.2f}"
-            for (operation, shape, *width), (rattle, plain) in pairs.items() if rattle / plain > RATIO_GOAL]
+            for (operation, shape, *width), (rattle, plain, *_) in pairs.items() if rattle / plain > RATIO_GOAL]
     verdict = "does not hold: " + "; ".join(over) if over else "holds"
     print(f"- {what} at most {RATIO_GOAL:.2f} of C's everywhere: {verdict}")
 
@@ -152,9 +160,14 @@ def print_goals(times, growth, counts):
     if counts:
         print_ratio_goal("Instructions", counts)
     for operation, goal in TIME_GOALS.items():
-        longest, shape = max((rattle, shape) for (asked, shape), (rattle, _) in times.items() if asked == operation)
+        longest, shape = max((sides[0], shape) for (asked, shape), sides in times.items() if asked == operation)
         verdict = "holds" if longest < goal else "does not hold"
         print(f"- {operation} under {spell(goal)}: {verdict}: at most {spell(longest)}, of {name(shape)}")
+    least, shape = min((pairwise / rattle, shape) for (_, shape), (rattle, _, pairwise) in times.items()
+                       if shape in FULL_FILES)
+    verdict = "holds" if least >= PAIRWISE_GOAL else "does not hold"
+    print(f"- comparing pairs takes at least {PAIRWISE_GOAL} times as long as judging, on each board of 4,095 pieces: "
+          f"{verdict}: {least:.0f} times, of {name(shape)}")
     for operation, goal in GROWTH_GOALS.items():
         steepest = max(exponent([growth[operation, shape, width][0] for width in WIDTHS])
                        for shape in GROWING)

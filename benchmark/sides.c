@@ -8,7 +8,7 @@
 
 const char *const operation_names[OPERATIONS] = {"read", "bounds", "route", "judge", "looks", "ceiling",
                                                    "own-blank"};
-const char *const side_names[SIDES] = {"rattle", "c"};
+const char *const side_names[SIDES] = {"rattle", "c", "pairwise"};
 
 static const struct {
     uint64_t (*read)(const uint8_t *, size_t, uint32_t *, size_t, uint32_t *, size_t);
@@ -21,7 +21,13 @@ static const struct {
 } entries[SIDES] = {
     {cabjirt_read, cabjirt_bounds, cabjirt_route, cabjirt_judge, cabjirt_looks, cabjirt_ceiling, cabjirt_own_blank},
     {plain_read, plain_bounds, plain_route, plain_judge, plain_looks, plain_ceiling, plain_own_blank},
+    {.judge = plain_pairwise},
 };
+
+enum side sides_of(enum operation operation)
+{
+    return operation == JUDGE ? SIDES : PAIRWISE;
+}
 
 void lend(struct lent *lent)
 {

@@ -1,11 +1,11 @@
-/* sides.h: the two sides that are compared, the operations, and what an operation is given and lent. */
+/* sides.h: the sides that are compared, the operations, and what an operation is given and lent. */
 #ifndef SIDES_H
 #define SIDES_H
 
 #include <stddef.h>
 #include <stdint.h>
 
-enum { ROW = 512, RING = 1022, BOARD = 10240, SCRATCH = 10238 };
+enum { ROW = 512, RING = 1022, BOARD = 10240, SCRATCH = 5119 };
 
 /* The longest text and board file that an input has, and the most entries of a table. */
 enum { TEXT_LIMIT = 65536, FILE_LIMIT = 4 + 4 * 4095, TABLE_LIMIT = 72 };
@@ -35,10 +35,15 @@ struct lent {
     size_t top_length, bot_length, ring_length, board_length, scratch_length;
 };
 
-enum side { RATTLE, PLAIN_C, SIDES };
+/* Rattle's library; plain C with the same algorithms; and for the judge alone, plain C that compares each piece with all
+ * before it. */
+enum side { RATTLE, PLAIN_C, PAIRWISE, SIDES };
 
 extern const char *const operation_names[OPERATIONS];
 extern const char *const side_names[SIDES];
+
+/* How many sides have an operation. */
+enum side sides_of(enum operation operation);
 
 /* Fills all that is lent with one pattern, at full lengths. */
 void lend(struct lent *lent);

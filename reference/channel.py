@@ -10,7 +10,7 @@ of blanks is compared with the set of its entries. Every function answers the pa
 import re
 from bisect import bisect_left
 
-ROW, RECORDS, RING, BOARD, SCRATCH = 512, 511, 1022, 10240, 10238
+ROW, RECORDS, RING, BOARD, SCRATCH = 512, 511, 1022, 10240, 5119
 HIGHEST_NET, WIDEST, LIMIT = 511, 512, 65536
 STOCK = (8, 12, 16, 24, 32, 48, 64, 96, 128, 192, 256, 512)
 MOST_TRACKS, MOST_ENTRIES = 512, 64  # of an entry of a customer's own table of blanks, and of such a table (Req 03)

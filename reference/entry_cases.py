@@ -171,7 +171,7 @@ def fixed_job(_):
         for ring, board in ((0, 0), (1021, 10239), (1022, 10239), (1021, 10240), (1023, 10241)):
             yield batch.route([], [700], fill, ring, board)
             yield batch.route([1, 2], [2, 1], fill, ring, board)
-        for scratch in (0, 10237, 10238, 10239):
+        for scratch in (0, 5118, 5119, 5120):
             yield batch.judge([], [700], b"", fill, scratch)
         for rows in (([], []), ([], [700]), ([0] * 513, []), ([0] * 513, [700] * 514), ([1, 2], [700])):
             yield from rows_cases(rows, fill)

@@ -56,7 +56,7 @@ enum {
     CABJIRT_ROW = 512,
     CABJIRT_RING = 1022,
     CABJIRT_BOARD = 10240,
-    CABJIRT_SCRATCH = 10238
+    CABJIRT_SCRATCH = 5119
 };
 
 /* The upper half of an answer: 0, or the number of a refusal or fault. */

@@ -97,8 +97,8 @@ fn judge_pieces(
 }
 
 // Judges a board file of any bytes against rows of any lengths and numbers, tangled channels included. Scratch, of at
-// least 5,119 numbers, may hold anything afterwards, at its old length. The cost grows little faster than the pieces and
-// the grid's lines and places.
+// least 5,119 numbers, may hold anything afterwards, at its old length. The cost grows with the pieces and with the
+// points of the grid, and not with the pairs of pieces.
 pub fn judge(top: &[u32], bot: &[u32], board: &[u8], scratch: &mut [u32]) -> JudgeAnswer
     ensures { λ r.
         ⌜ Judged (rows (now (top .entry)) (now (bot .entry))) (now (board .entry)) (now (scratch .entry)) r
