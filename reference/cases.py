@@ -8,6 +8,7 @@ from pathlib import Path
 
 import board_cases
 import channel
+import crowded_boards
 import row_cases
 import table_cases
 import text_cases
@@ -116,6 +117,7 @@ def main(folder):
     board_cases.add_all(cases)
     text_cases.add_all(cases)
     row_cases.add_all(cases)
+    crowded_boards.add_all(cases)
     table_cases.add_all(cases)
     cases.input += bytes([OPEN]) + pair(5) + bytes(4)  # five bytes are announced, and four follow
     cases.lines.append("CUT")

@@ -84,13 +84,14 @@ def entries(seed):
     kinds = ", ".join(f"{name} {each[name]}" for name in batch.NAMES)
     features = sum((found for _, found in parts), Counter())
     parked = ", ".join(f"{name} {features[name]}" for name in entry_cases.PARKED)
-    due = (entry_cases.GOOD + entry_cases.PARKED + entry_cases.READ + entry_cases.GARBLED + entry_cases.LOOKS
-           + entry_cases.CEILING + entry_cases.OWN_BLANK + entry_cases.NO_OWN_BLANK + entry_cases.REFUSED)
+    due = (entry_cases.GOOD + entry_cases.SWEPT + entry_cases.PARKED + entry_cases.READ + entry_cases.GARBLED
+           + entry_cases.LOOKS + entry_cases.CEILING + entry_cases.OWN_BLANK + entry_cases.NO_OWN_BLANK
+           + entry_cases.REFUSED)
     return difference or lacking(numbers, ENTRY_NUMBERS) or lacking(features, due), (
         f"{len(cases)} cases in one process ({kinds}); answers {counted(numbers)}; good boards"
-        f" {having(features, entry_cases.GOOD)}; parked pins in {parked}; texts read"
-        f" {having(features, entry_cases.READ)}; garbled {having(features, entry_cases.GARBLED)}; looks"
-        f" {having(features, entry_cases.LOOKS)}; ceilings {having(features, entry_cases.CEILING)}; own blanks"
+        f" {having(features, entry_cases.GOOD)}; boards swept {having(features, entry_cases.SWEPT)}; parked pins in"
+        f" {parked}; texts read {having(features, entry_cases.READ)}; garbled"
+        f" {having(features, entry_cases.GARBLED)}; looks {having(features, entry_cases.LOOKS)}; ceilings {having(features, entry_cases.CEILING)}; own blanks"
         f" {having(features, entry_cases.OWN_BLANK)}, and refused {having(features, entry_cases.NO_OWN_BLANK)}")
 
 

@@ -5,6 +5,7 @@ from collections import Counter
 
 import batch
 import channel
+import crowded_boards
 import piece_sets
 import random_boards
 import random_channels
@@ -15,11 +16,13 @@ import small_channels
 import table_cases
 import text_cases
 
-# What must be shown by some good board, some channel or board with parked pins, some text that is read, some text that
-# is garbled, some looks, some ceiling, some entry chosen of a table of blanks, and some table that is refused; and the
-# refusals that looks and ceiling must have.
+# What must be shown by some good board, some good or faulty board of few pieces, some channel or board with parked
+# pins, some text that is read, some text that is garbled, some looks, some ceiling, some entry chosen of a table of
+# blanks, and some table that is refused; and the refusals that looks and ceiling must have.
 GOOD = ("several trunks a net", "a tangled channel", "copper at an edge place without a pin",
         "copper on a parked pin", "a parked pin without copper")
+SWEPT = ("a range inside another", "ranges that end where the next starts", "equal ranges",
+         "a contact at a trunk's end", "contacts at one point", "a branch from pin to pin", "no track")
 PARKED = ("a routed channel", "a channel of nothing else", "a refused ring", "a short")
 READ = ("runs of spaces", "a carriage return in each line", "one in TOP alone", "one in BOT alone")
 GARBLED = ("a carriage return in the place", "one before the place", "a tab in the place",
@@ -122,6 +125,18 @@ def scatter_job(rng):
         yield from damages(rng, *random_boards.scattered(rng, width, rng.randint(0, 6), rng.randint(2, 5 * width)), 2)
 
 
+def crowded_job(rng):
+    """Boards made to hurt a sweep."""
+    for _ in range(250):
+        yield from damages(rng, *crowded_boards.drawn(rng), 1)
+
+
+def fixed_crowded_job(_):
+    """The same, made by hand."""
+    for rows, tracks, pieces in crowded_boards.by_hand():
+        yield batch.judge(*rows, channel.encode(len(rows[0]), tracks, pieces))
+
+
 def wide_job(rng):
     """Channels of up to 512 columns, and boards of up to 4,095 pieces."""
     for _ in range(4):
@@ -178,7 +193,8 @@ def fixed_job(_):
 
 
 JOBS = ((fixed_job, 1), (small_board_job, 1), (wide_job, 10), (maze_job, 8), (own_board_job, 8), (channel_job, 10),
-        (scatter_job, 6), (text_job, 12), (fixed_table_job, 1), (table_job, 4))
+        (scatter_job, 6), (crowded_job, 6), (fixed_crowded_job, 1), (text_job, 12), (fixed_table_job, 1),
+        (table_job, 4))
 
 
 def jobs(seed):
@@ -196,6 +212,8 @@ def made(job):
 def features(case):
     if case.kind() == batch.JUDGE and case.number() == 0:
         yield from good_features(case)
+    if case.kind() == batch.JUDGE and case.number() in (0, 11, 12, 13):
+        yield from swept_features(case)
     if case.kind() in (batch.ROUTE, batch.JUDGE) and case.number() in (0, 7, 11):
         yield from parked_features(case)
     if case.kind() == batch.READ and case.number() in (0, 2):
@@ -226,6 +244,25 @@ def good_features(case):
         yield stub
     if parked - reached:
         yield bare
+
+
+def swept_features(case):
+    """What a board of few pieces shows to a judge that sweeps lines."""
+    (top, bot), file = case.inputs()
+    _, tracks, pieces = channel.open_board(file)
+    if len(pieces) > 64:
+        return
+    contacts = [(c, r) for kind, c, r, _ in pieces if kind == random_boards.CONTACT]
+    ranges = [(kind, line, a, b) for kind, line, a, b in pieces if kind != random_boards.CONTACT]
+    pairs = [((a, b), (c, d)) for i, (kind, line, a, b) in enumerate(ranges) for other, same, c, d in ranges[i + 1:]
+             if (kind, line) == (other, same)]
+    ends = {(c, r) for kind, r, *columns in ranges if kind == random_boards.TRUNK for c in columns}
+    shown = (any(a < c and d < b or c < a and b < d for (a, b), (c, d) in pairs),
+             any(b == c or d == a for (a, b), (c, d) in pairs), any(p == q for p, q in pairs), ends & set(contacts),
+             len(set(contacts)) < len(contacts),
+             any(p[0] == random_boards.BRANCH and p[2:] == (0, tracks + 1) and top[p[1] - 1] and bot[p[1] - 1]
+                 for p in ranges), ranges and tracks == 0)
+    yield from (name for name, seen in zip(SWEPT, shown) if seen)
 
 
 def parked_features(case):

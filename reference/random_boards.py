@@ -64,10 +64,14 @@ def edges_of(group, tracks):
 
 
 def scattered(rng, width, tracks, count, longest=4):
-    """A good layout of pieces drawn one by one, and then a channel that it fits, with pins at most edge places that its
-    copper reaches, and parked pins at some that it does not: rows, tracks and pieces."""
+    """A good layout of pieces drawn one by one, and a channel that it fits: rows, tracks and pieces."""
     drawn = [p for p in (piece(rng, width, tracks, longest) for _ in range(count)) if p]
-    drawn += crossings(rng, drawn, rng.choice((0.1, 0.4, 0.8)))
+    return fitted(rng, width, tracks, drawn + crossings(rng, drawn, rng.choice((0.1, 0.4, 0.8))))
+
+
+def fitted(rng, width, tracks, drawn):
+    """What of some pieces reaches an edge, and a channel that it fits, with pins at most edge places that its copper
+    reaches, and parked pins at some that it does not: rows, tracks and pieces."""
     rows, kept, nets = ([0] * width, [0] * width), [], 0
     unreached = {(row, column) for row in (0, 1) for column in range(1, width + 1)}
     for group in groups_of(drawn):

@@ -32,6 +32,8 @@ WRONG_LOOKS = ("LAST", "PLACED", "STRAIGHT", "PARKED", "SQUARE")
 # The wrong entries of wrong_own.c: the cases of both jobs with tables tell each, and so do the request's words.
 WRONG_OWN = ("EQUAL", "FALLING", "ZERO", "HIGH", "CUT", "CUT_TRACKS", "LONG", "SHORT", "NONE", "FROM_0", "LATER",
              "LARGEST", "ABOVE", "BAD_FIRST", "BARE_FIRST", "LAST", "NO_TRACKS")
+# The wrong judges of wrong_sweep.c: the boards made to hurt a sweep tell each, those made by hand and those drawn.
+WRONG_SWEEPS = ("FORGETS", "TRUNKS", "BRANCHES", "BESIDE", "STARTS", "CONTACTS", "POINTS", "EDGE", "BARE", "LAST")
 # Forms that get Req 01 wrong: what they take before a number, and at the end of a line.
 WRONG_FORMS = {
     "no runs of spaces": (b" ", rb"\r?\n"), "tabs": (rb"[ \t]+", rb"\r?\n"), "no carriage return": (b" +", rb"\n"),
@@ -83,7 +85,7 @@ def buffer_faults():
     program = batch.PROGRAM.with_name("batch_wrong")
     batch.build(batch.ROOT / "reference" / "wrong_entries.c", program)
     due = ["0 1 top 0 kept bot 0 changed 2048 inputs kept", "0 0 inputs changed",
-           "7 1 ring 1 2 changed 8 board changed -1 inputs kept", "0 2 scratch changed 40952 inputs kept",
+           "7 1 ring 1 2 changed 8 board changed -1 inputs kept", "0 2 scratch changed 20476 inputs kept",
            "14 9 inputs kept", "0 1 inputs changed", "0 3 inputs changed", "16 9 inputs changed"]
     for line, wanted in zip(batch.answers([case.question for case in entry_questions()[:8]], program), due):
         if line != wanted:
@@ -172,6 +174,19 @@ def own_entry_faults(first_difference):
                 yield f"the wrong entry {wrong} is not found by {name}, or a right one is called wrong: {told}"
         if wrong == "ABOVE" and not list(own_checks.stock_differences(program)):
             yield f"the wrong entry {wrong} is not found where the stock is the table"
+
+
+def sweep_entry_faults(first_difference):
+    """Judges that get a sweep of lines wrong, on boards made by hand to hurt one and on such boards as they are
+    drawn."""
+    program = batch.PROGRAM.with_name("batch_sweep")
+    jobs = {job: entry_cases.made(("self-test", job, 0))[0] for job in ("fixed_crowded_job", "crowded_job")}
+    for wrong in ("NOTHING", *WRONG_SWEEPS):
+        batch.build(program=program, source="wrong_sweep.c", flags=[f"-DWRONG={wrong}"])
+        for job, cases in jobs.items():
+            told = first_difference(cases, batch.answers([case.question for case in cases], program))
+            if (told is None) != (wrong == "NOTHING") or "no answer" in str(told):
+                yield f"the wrong judge {wrong} is not found by {job}, or a right one is called wrong: {told}"
 
 
 def seeing(name, seen):
@@ -287,12 +302,13 @@ def compare(first_difference, lacking):
     faults = [*form_checks.faults(), *looks_checks.faults(), *program_faults(first_difference),
               *entry_faults(first_difference), *buffer_faults(), *search_faults(),
               *parked_entry_faults(first_difference), *looks_entry_faults(first_difference),
-              *own_faults(), *own_entry_faults(first_difference), *turned_faults(), *turned_entry_faults(),
+              *own_faults(), *own_entry_faults(first_difference), *sweep_entry_faults(first_difference),
+              *turned_faults(), *turned_entry_faults(),
               *parked_record_faults(first_difference), *reader_faults(first_difference)]
     if lacking({1, 2}, {1, 2, 3}) is None or lacking({1, 2}, {1, 2}):
         faults.append("a number that is never answered is not told")
     return faults[0] if faults else None, (
         "the form is as its states say, and looks as they are counted one by one; wrong answers of programs and"
         " entries, spoilt buffers, a wrong search, readers that get spaces or line ends wrong, records, copper, steps,"
-        " density and a judge that get parked pins wrong, wrong looks and ceilings, wrong choices of own blanks, and"
-        " what gets a board turned over wrong are found and shown")
+        " density and a judge that get parked pins wrong, wrong looks and ceilings, wrong choices of own blanks,"
+        " judges that get a sweep of lines wrong, and what gets a board turned over wrong are found and shown")
