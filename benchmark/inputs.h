@@ -66,8 +66,8 @@ void random_table(struct input *input);
  * Its table is a random one. */
 void random_input(struct input *input);
 
-/* Puts pieces crowded on few lines in place of an input's board file: ranges one in the other, equal ones, ones that end
- * where the next starts, contacts at their ends, branches to both rows of pins; one in eight has no track. */
+/* Puts pieces crowded on few lines in place of an input's board file: ranges one in the other, equal ones, ones that
+ * end where the next starts, contacts at their ends, branches to both rows of pins; one in eight has no track. */
 void crowd_file(struct input *input);
 
 /* Changes or cuts the text of an input: spaces, carriage returns and tabs come where they belong and where they do

@@ -7,8 +7,8 @@
 /* The most inputs that are timed by turns. */
 enum { SERIES = 4 };
 
-/* Times an operation on some inputs and on Rattle's side and C's, by turns, for about so many seconds; medians in nanoseconds a
- * call. */
+/* Times an operation on some inputs, Rattle's side and C's by turns, for about so many seconds; medians in nanoseconds
+ * a call. */
 void measure(enum operation operation, const struct input *inputs, size_t count, double seconds,
              double medians[][PAIRWISE]);
 

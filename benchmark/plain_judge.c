@@ -1,5 +1,5 @@
-/* The judge: the elements of a board, its pin places and pieces, are joined where their ranges overlap on a column or on
- * a track, in a union-find with one number for each; and the faults are read off the classes. */
+/* The judge: the elements of a board, its pin places and pieces, are joined where their ranges overlap on a column or
+ * on a track, in a union-find with one number for each; and the faults are read off the classes. */
 #include "plain.h"
 
 /* A number in two halves: of an element, its parent and the next one on its line, or of a root the net of its class; of
@@ -92,9 +92,11 @@ static void sweep(uint32_t *starts, size_t places, uint32_t *forest)
     }
 }
 
-static void join_on(const struct judged *in, bool across, size_t lines, size_t places, uint32_t *forest, size_t n)
+/* Joins the elements whose ranges overlap on a line; `starts` is blank, and is left so. */
+static void join_on(const struct judged *in, bool across, size_t lines, size_t places, uint32_t *starts,
+                    uint32_t *forest, size_t n)
 {
-    uint32_t heads[LINES] = {0}, starts[LINES] = {0};
+    uint32_t heads[LINES] = {0};
     for (size_t i = 0; i < n; i++) {
         uint32_t line = range_on(in, across, i).line;
         forest[i] = forest[i] % HALF + HALF * heads[line];
@@ -128,8 +130,9 @@ static inline bool claim(uint32_t *place, uint32_t value)
     return *place == value;
 }
 
-/* 0, or the first fault in rising number of the n elements. */
-static uint64_t find_fault(const struct plain_rows *rows, uint32_t *forest, size_t n)
+/* 0, or the first fault in rising number of the n elements. `firsts`, a blank table by net, gets for each net the class
+ * of its first pin, counted from 1. */
+static uint64_t find_fault(const struct plain_rows *rows, uint32_t *forest, size_t n, uint32_t *firsts)
 {
     size_t pins = 2 * rows->width;
     for (size_t i = 0; i < pins; i++) {
@@ -137,7 +140,6 @@ static uint64_t find_fault(const struct plain_rows *rows, uint32_t *forest, size
         if (net != 0 && !claim_class(forest, i, net))
             return plain_refused(11, i + 1);
     }
-    uint32_t firsts[PLAIN_NETS] = {0}; /* for each net the class of its first pin, counted from 1 */
     for (size_t i = 0; i < pins; i++) {
         uint32_t net = net_at(rows, i);
         if (net != 0 && !claim(&firsts[net], forest[i] % HALF + 1))
@@ -168,10 +170,11 @@ uint64_t plain_judge(const uint32_t *top, size_t top_length, const uint32_t *bot
     size_t n = 2 * rows.width + header.count;
     for (size_t i = 0; i < n; i++)
         scratch[i] = (uint32_t)i;
-    join_on(&in, false, rows.width + 1, header.tracks + 2, scratch, n);
-    join_on(&in, true, header.tracks + 1, rows.width + 1, scratch, n);
+    uint32_t table[LINES] = {0};
+    join_on(&in, false, rows.width + 1, header.tracks + 2, table, scratch, n);
+    join_on(&in, true, header.tracks + 1, rows.width + 1, table, scratch, n);
     for (size_t i = 0; i < n; i++)
         scratch[i] = scratch[scratch[i] % HALF] % HALF;
-    uint64_t fault = find_fault(&rows, scratch, n);
+    uint64_t fault = find_fault(&rows, scratch, n, table);
     return fault != 0 ? fault : header.tracks;
 }

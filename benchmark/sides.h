@@ -35,8 +35,8 @@ struct lent {
     size_t top_length, bot_length, ring_length, board_length, scratch_length;
 };
 
-/* Rattle's library; plain C with the same algorithms; and for the judge alone, plain C that compares each piece with all
- * before it. */
+/* Rattle's library; plain C with the same algorithms; and for the judge alone, plain C that compares each piece with
+ * all before it. */
 enum side { RATTLE, PLAIN_C, PAIRWISE, SIDES };
 
 extern const char *const operation_names[OPERATIONS];

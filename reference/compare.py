@@ -91,8 +91,9 @@ def entries(seed):
         f"{len(cases)} cases in one process ({kinds}); answers {counted(numbers)}; good boards"
         f" {having(features, entry_cases.GOOD)}; boards swept {having(features, entry_cases.SWEPT)}; parked pins in"
         f" {parked}; texts read {having(features, entry_cases.READ)}; garbled"
-        f" {having(features, entry_cases.GARBLED)}; looks {having(features, entry_cases.LOOKS)}; ceilings {having(features, entry_cases.CEILING)}; own blanks"
-        f" {having(features, entry_cases.OWN_BLANK)}, and refused {having(features, entry_cases.NO_OWN_BLANK)}")
+        f" {having(features, entry_cases.GARBLED)}; looks {having(features, entry_cases.LOOKS)}; ceilings"
+        f" {having(features, entry_cases.CEILING)}; own blanks {having(features, entry_cases.OWN_BLANK)}, and refused"
+        f" {having(features, entry_cases.NO_OWN_BLANK)}")
 
 
 def run(name, part, *arguments):

@@ -42,19 +42,6 @@ pub record FaultReady (top bot s : List ℕ) : Type 0 where
   pub small : length s ≤ half
   pub marked : (i : ℕ) → i < length s → getD (marksIn s) i 0 ≤ length s
 
--- a table of n places, all free
-pub record Blank (n : ℕ) (table : List ℕ) : Type 0 where
-  pub places : length table ≡ n
-  pub free : (i : ℕ) → getD table i 0 ≡ 0
-
-zeros-free : (n i : ℕ) → _≡_ {A = ℕ} (getD (replicate n 0) i 0) 0
-zeros-free zero i = refl
-zeros-free (suc n) zero = refl
-zeros-free (suc n) (suc i) = zeros-free n i
-
-pub blank-zeros : (n : ℕ) → Blank n (replicate n 0)
-blank-zeros n = record { places = length-replicate n 0; free = zeros-free n }
-
 -- whether a pin may have a place of a table for its value, and the table then
 pub data Claimed (table : List ℕ) (pin : Bool) (place value : ℕ) : Bool → List ℕ → Type 0 where
   no-pin : pin ≡ false → Claimed table pin place value true table

@@ -1,52 +1,40 @@
 -- The lines, joined one after the other: what the loop over them has done, and what each turn asks and leaves.
-use Prim.Native.Nat.{ℕ, zero, suc, _+_, _≤_, _<_}
+use Prim.Native.Nat.{ℕ, _+_, _≤_, _<_}
 use native.Mathlib.Omega.{arith}
 use native.Mathlib.Numerals.{add-one}
 use mathlib.Core.Path.{_≡_, refl, _∙_, subst}
 use mathlib.Core.List.{List}
 use mathlib.Core.Bool.{Bool}
-use lib.ListN.{length, getD, take, replicate, length-replicate}
-use lib.Seq.{length-take-le}
+use lib.ListN.{length, getD}
 use Rattle.classes.specs.Halves.{half}
 use Rattle.classes.specs.Lines.{RangesFit, Chained, Entered, LinesJoined, AllJoined, ChainsMade}
 use Rattle.classes.specs.Sweep.{Sweepable, Swept}
 use Rattle.classes.specs.ChainLaws.{chained-grown}
 use Rattle.classes.specs.LineLaws.{entered-sweepable, lines-none, lines-next}
 use Rattle.classes.specs.JoinLaws.{all-joined}
-use Rattle.channel.specs.Channel.{Channel, widest}
+use Rattle.channel.specs.Channel.{Channel}
 use Rattle.judge.specs.Ranges.{rangeOn}
+use Rattle.judge.specs.Tables.{Blank}
 use Rattle.judge.specs.LineSteps.{ElementsIn, ChainReady, LineReady, LinesReady, JoinReady}
 
 pub chain-ready : {ch : Channel} {board : List ℕ} {t : ℕ} {across : Bool} {heads starts s : List ℕ}
     → LinesReady ch board t across heads starts s → ChainReady ch board t across heads s
 chain-ready ready = record { elements = ready .elements; lined = ready .fits .lined; blank = ready .headed }
 
--- the front of a table of zeros
-zeros-taken : (n k i : ℕ) → _≡_ {A = ℕ} (getD (take k (replicate n 0)) i 0) 0
-zeros-taken n zero i = refl
-zeros-taken zero (suc k) i = refl
-zeros-taken (suc n) (suc k) zero = refl
-zeros-taken (suc n) (suc k) (suc i) = zeros-taken n k i
-
-pub front-length : (k : ℕ) → k ≤ widest + 1 → length {A = ℕ} (take k (replicate (widest + 1) 0)) ≡ k
-front-length k h =
-    let z : ℕ = 0 in
-    let e = length-replicate (widest + 1) z in
-    length-take-le k (replicate (widest + 1) z) (omega arith)
-
-pub lines-ready : {ch : Channel} {board : List ℕ} {t : ℕ} {across : Bool} {lines places : ℕ} {s : List ℕ}
-    → JoinReady ch board t across lines places s
-    → LinesReady ch board t across (take lines (replicate (widest + 1) 0)) (take places (replicate (widest + 1) 0)) s
-lines-ready {lines = lines} {places = places} ready =
+-- the fronts of two blank tables have a head for each line and a place for each start
+pub lines-ready : {ch : Channel} {board : List ℕ} {t : ℕ} {across : Bool} {lines places : ℕ} {heads starts s : List ℕ}
+    → JoinReady ch board t across lines places s → Blank lines heads → Blank places starts
+    → LinesReady ch board t across heads starts s
+lines-ready ready h b =
     let f = ready .few in
-    let h = front-length lines (f .0) in
-    let k = front-length places (f .1) in
+    let e = h .places in
+    let k = b .places in
     let z = ready .some in
     record {
       elements = ready .elements;
-      fits = rw (h, k) (ready .fits);
-      headed = zeros-taken (widest + 1) lines;
-      blank = zeros-taken (widest + 1) places;
+      fits = rw (e, k) (ready .fits);
+      headed = h .free;
+      blank = b .free;
       some = omega arith;
       few = omega arith;
     }

@@ -14,6 +14,7 @@ pub mod Code
 pub mod Ranges
 pub mod RangeLaws
 pub mod BoxLaws
+pub mod Tables
 pub mod LineSteps
 pub mod RangeSteps
 pub mod FitLaws

@@ -2,16 +2,16 @@
 // low half is its class, a root; and the high half of a root is the net of the class's pins, 0 until one is met.
 ghost use mathlib.Core.Path.{_≡_};
 ghost use mathlib.Core.List.{_++_};
-ghost use Prim.Native.Nat.{ℕ, suc, _+_, _≤_, _<_};
+ghost use Prim.Native.Nat.{ℕ, _+_, _≤_, _<_};
 ghost use lib.ListN.{length, getD};
 ghost use Rattle.lists.specs.Lists.{headOr};
 ghost use Rattle.classes.specs.Halves.{half};
-ghost use Rattle.channel.specs.Channel.{highestNet, rows};
+ghost use Rattle.channel.specs.Channel.{widest, rows};
 ghost use Rattle.judge.specs.Finding.{opens};
-ghost use Rattle.judge.specs.FaultSteps.{Blank, Claimed, ClassClaimed, FaultReady, ShortFound, FirstFloating};
+ghost use Rattle.judge.specs.Tables.{Blank};
+ghost use Rattle.judge.specs.FaultSteps.{Claimed, ClassClaimed, FaultReady, ShortFound, FirstFloating};
 ghost use Rattle.judge.specs.FaultSteps.{Finds, marksIn, ownersIn};
 use crate::Fault;
-use grid::NET_SLOTS;
 
 // What is found.
 pub enum Found {
@@ -94,7 +94,7 @@ fn first_short(top: &[u32], bot: &[u32], scratch: &mut [u32]) -> usize
 // The lowest position, from 1, of a pin not joined to its net's first pin, or 0 if there is none. `firsts` gets for
 // each net the class of its first pin, counted from 1.
 fn first_open(top: &[u32], bot: &[u32], scratch: &[u32], firsts: &mut [u32]) -> usize
-    requires { ⌜ FaultReady (now top) (now bot) (now scratch) × Blank (suc highestNet) (now firsts) ⌝ }
+    requires { ⌜ FaultReady (now top) (now bot) (now scratch) × Blank (widest + 1) (now firsts) ⌝ }
     ensures { λ r.
         ⌜ r ≡ headOr 0 (opens (rows (now (top .entry)) (now (bot .entry))) (marksIn (now (scratch .entry)))) ⌝ }
 {
@@ -127,9 +127,12 @@ fn first_floating(scratch: &[u32], base: usize) -> usize
     0
 }
 
-// The first fault, in rising number, of the pin places and the pieces whose classes stand in `scratch`.
-pub fn find_fault(top: &[u32], bot: &[u32], scratch: &mut [u32]) -> Found
-    requires { ⌜ FaultReady (now top) (now bot) (now scratch) × ((m : ℕ) → getD (ownersIn (now scratch)) m 0 ≡ 0) ⌝ }
+// The first fault, in rising number, of the pin places and the pieces whose classes stand in `scratch`. `firsts` is a
+// blank table by net.
+pub fn find_fault(top: &[u32], bot: &[u32], scratch: &mut [u32], firsts: &mut [u32]) -> Found
+    requires { ⌜ FaultReady (now top) (now bot) (now scratch)
+        × ((m : ℕ) → getD (ownersIn (now scratch)) m 0 ≡ 0)
+        × Blank (widest + 1) (now firsts) ⌝ }
     ensures { λ r.
         ⌜ Finds (rows (now (top .entry)) (now (bot .entry))) (now (scratch .entry)) r ⌝ }
 {
@@ -137,8 +140,7 @@ pub fn find_fault(top: &[u32], bot: &[u32], scratch: &mut [u32]) -> Found
     if short != 0 {
         return Found::Fault(Fault::Short(short));
     }
-    let mut firsts = [0u32; NET_SLOTS];
-    let open = first_open(top, bot, scratch, &mut firsts);
+    let open = first_open(top, bot, scratch, firsts);
     if open != 0 {
         return Found::Fault(Fault::Open(open));
     }

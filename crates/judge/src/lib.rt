@@ -12,6 +12,7 @@ mod faults;
 mod lines;
 mod ranges;
 
+use grid::COLUMN_SLOTS;
 use refusal::Refusal;
 use refusal::SCRATCH_TRAY;
 
@@ -55,7 +56,8 @@ pub fn fault_place(fault: Fault) -> usize
     }
 }
 
-// Judges the elements of a board, its pin places and pieces, with a number of scratch for each.
+// Judges the elements of a board, its pin places and pieces, with a number of scratch for each. The table, by place of a
+// line and then by net, is blank at each use.
 fn judge_elements(
     top: &[u32],
     bot: &[u32],
@@ -69,11 +71,32 @@ fn judge_elements(
 {
     let width = top.len();
     let rows = tracks as usize + 2;
+    let mut table = [0u32; COLUMN_SLOTS];
     classes::alone(scratch);
-    lines::join_on(top, bot, board, tracks, false, width + 1, rows, scratch);
-    lines::join_on(top, bot, board, tracks, true, rows - 1, width + 1, scratch);
+    lines::join_on(
+        top,
+        bot,
+        board,
+        tracks,
+        false,
+        width + 1,
+        rows,
+        &mut table,
+        scratch,
+    );
+    lines::join_on(
+        top,
+        bot,
+        board,
+        tracks,
+        true,
+        rows - 1,
+        width + 1,
+        &mut table,
+        scratch,
+    );
     classes::flatten(scratch);
-    match faults::find_fault(top, bot, scratch) {
+    match faults::find_fault(top, bot, scratch, &mut table) {
         faults::Found::Nothing => JudgeAnswer::Good(tracks),
         faults::Found::Fault(fault) => JudgeAnswer::Faulty(fault),
     }

@@ -1,7 +1,11 @@
 // The elements that touch are joined: on each column, and then on each track, those whose ranges overlap.
+ghost use mathlib.Core.Path.{_≡_};
+ghost use Prim.Native.Nat.{ℕ, _+_};
+ghost use lib.ListN.{getD};
 ghost use Rattle.classes.specs.Lines.{ChainsMade, Entered, AllJoined};
-ghost use Rattle.channel.specs.Channel.{rows};
+ghost use Rattle.channel.specs.Channel.{widest, rows};
 ghost use Rattle.judge.specs.Ranges.{rangeOn};
+ghost use Rattle.judge.specs.Tables.{Blank};
 ghost use Rattle.judge.specs.LineSteps.{ChainReady, LineReady, LinesReady, JoinReady};
 use crate::ranges::range_on;
 use grid::COLUMN_SLOTS;
@@ -71,7 +75,8 @@ fn join_lines(
     requires { ⌜ LinesReady (rows (now top) (now bot)) (now board) tracks across (now heads) (now starts) (now forest) ⌝ }
     ensures { λ _.
         ⌜ AllJoined (rangeOn across (rows (now (top .entry)) (now (bot .entry))) tracks (now (board .entry)))
-        (now (forest .entry)) (now (forest .exit)) ⌝ }
+        (now (forest .entry)) (now (forest .exit))
+        × ((a : ℕ) → getD (now (starts .exit)) a 0 ≡ 0) ⌝ }
 {
     chain_lines(top, bot, board, tracks, across, heads, forest);
     let mut line: usize = 1;
@@ -82,7 +87,8 @@ fn join_lines(
     }
 }
 
-// Joins the elements whose ranges overlap on a line, of so many lines and places, each counted from 0.
+// Joins the elements whose ranges overlap on a line, of so many lines and places, each counted from 0. `starts` is
+// blank, and is left so.
 pub fn join_on(
     top: &[u32],
     bot: &[u32],
@@ -91,15 +97,17 @@ pub fn join_on(
     across: bool,
     lines: usize,
     places: usize,
+    starts: &mut [u32],
     forest: &mut [u32],
 )
-    requires { ⌜ JoinReady (rows (now top) (now bot)) (now board) tracks across lines places (now forest) ⌝ }
+    requires { ⌜ JoinReady (rows (now top) (now bot)) (now board) tracks across lines places (now forest)
+        × Blank (widest + 1) (now starts) ⌝ }
     ensures { λ _.
         ⌜ AllJoined (rangeOn across (rows (now (top .entry)) (now (bot .entry))) tracks (now (board .entry)))
-        (now (forest .entry)) (now (forest .exit)) ⌝ }
+        (now (forest .entry)) (now (forest .exit))
+        × Blank (widest + 1) (now (starts .exit)) ⌝ }
 {
     let mut heads = [0u32; COLUMN_SLOTS];
-    let mut starts = [0u32; COLUMN_SLOTS];
     join_lines(
         top,
         bot,

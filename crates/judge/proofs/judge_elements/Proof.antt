@@ -1,8 +1,11 @@
 -- `judge_elements` meets its contract: the elements are alone, then joined on the columns and on the tracks; so two have
 -- one root exactly if they have one mark, and what is found by the roots is the finding.
 use borrow.Author.Needs.{needs}
+use Prim.Native.Nat.{_+_}
 use native.Mathlib.Omega.{arith}
 use mathlib.Core.Path.{refl, sym, _∙_}
+use Rattle.channel.specs.Channel.{widest}
+use Rattle.judge.specs.Tables.{blank-zeros}
 use Rattle.judge.specs.ElementSteps.{elements-few, columns-ready, tracks-ready, flat-ready, flat-unowned}
 use Rattle.judge.specs.ElementSteps.{found-finding}
 use Rattle.judge.specs.JudgeSteps.{found-nothing, found-fault}
@@ -17,53 +20,59 @@ alone-requires c κs =
     omega arith
 
 join-on-requires : tie.Need-join-on-requires
-join-on-requires c κs =
-    columns-ready _ _ _ _ _ (c .before .before .before .before .before .before .before .before .before .pre)
-    (c .before .before .before .alone .ensures) _ _ refl refl
+join-on-requires c κs = (
+  columns-ready _ _ _ _ _ (c .before .before .before .before .before .before .before .before .before .before .pre)
+      (c .before .before .before .before .alone .ensures) _ _ refl refl,
+  blank-zeros (widest + 1),
+)
 
 join-on-requires-2 : tie.Need-join-on-requires-2
 join-on-requires-2 c κs =
-    tracks-ready _ _ _ _ _
-    (c .before .before .before .before .before .before .before .before .before .before .before .before .before .pre)
-    (c .before .before .before .before .before .before .before .alone .ensures) _ (c .before .before .before .join-on .ensures) _ _ (omega arith)
-    refl
+    let columns = c .before .before .before .before .before .join-on in (
+      tracks-ready _ _ _ _ _ (c .before .before .before .before .before .before .before .before .before .before .before .before .before .before .before .before .pre)
+          (c .before .before .before .before .before .before .before .before .before .before .alone .ensures) _ (columns .ensures .0) _ _
+          (omega arith) refl,
+      columns .ensures .1,
+    )
 
 find-fault-requires : tie.Need-find-fault-requires
 find-fault-requires c κs =
-    let start = c .before .before .before .before .before .before .before .before .before .before .before .before .before .before .before .before .before .before .before .before .before in
-    let alone = c .before .before .before .before .before .before .before .before .before .before .before .before .before .before .before .alone in
-    let columns = c .before .before .before .before .before .before .before .before .before .before .before .join-on in
-    let tracks = c .before .before .before .before .before .before .before .join-on2 in
-    let roots = c .before .before .before .flatten in (
-      flat-ready _ _ _ _ _ (start .pre) (alone .ensures) _ (columns .ensures) _ _ (tracks .ensures) (roots .ensures),
-      flat-unowned _ _ _ _ _ (start .pre) (alone .ensures) _ (columns .ensures) _ _ (tracks .ensures) (roots .ensures),
+    let start = c .before .before .before .before .before .before .before .before .before .before .before .before .before .before .before .before .before .before .before .before .before .before .before .before .before .before in
+    let alone = c .before .before .before .before .before .before .before .before .before .before .before .before .before .before .before .before .before .before .before .before .alone in
+    let columns = c .before .before .before .before .before .before .before .before .before .before .before .before .before .before .before .join-on in
+    let tracks = c .before .before .before .before .before .before .before .before .before .join-on2 in
+    let roots = c .before .before .before .before .flatten in (
+      flat-ready _ _ _ _ _ (start .pre) (alone .ensures) _ (columns .ensures .0) _ _ (tracks .ensures .0) (roots .ensures),
+      flat-unowned _ _ _ _ _ (start .pre) (alone .ensures) _ (columns .ensures .0) _ _ (tracks .ensures .0) (roots .ensures),
+      tracks .ensures .1,
     )
 
 returns : tie.Need-returns
 returns c =
-    let start = c .before .before .before .before .before .before .before .before .before .before .before .before .before .before .before .before .before .before .before .before .before .before .before .before .before .before in
-    let alone = c .before .before .before .before .before .before .before .before .before .before .before .before .before .before .before .before .before .before .before .before .alone in
-    let columns = c .before .before .before .before .before .before .before .before .before .before .before .before .before .before .before .before .join-on in
-    let tracks = c .before .before .before .before .before .before .before .before .before .before .before .before .join-on2 in
-    let roots = c .before .before .before .before .before .before .before .before .flatten in
-    let said = found-finding _ _ _ _ _ (start .pre) (alone .ensures) _ (columns .ensures) _ _ (tracks .ensures) (roots .ensures)
-    (c .before .before .before .before .find-fault .result) (c .before .before .before .before .find-fault .ensures) in
+    let start = c .before .before .before .before .before .before .before .before .before .before .before .before .before .before .before .before .before .before .before .before .before .before .before .before .before .before .before .before .before .before .before .before in
+    let alone = c .before .before .before .before .before .before .before .before .before .before .before .before .before .before .before .before .before .before .before .before .before .before .before .before .before .before .alone in
+    let columns = c .before .before .before .before .before .before .before .before .before .before .before .before .before .before .before .before .before .before .before .before .before .join-on in
+    let tracks = c .before .before .before .before .before .before .before .before .before .before .before .before .before .before .before .join-on2 in
+    let roots = c .before .before .before .before .before .before .before .before .before .before .flatten in
+    let said = found-finding _ _ _ _ _ (start .pre) (alone .ensures) _ (columns .ensures .0) _ _ (tracks .ensures .0) (roots .ensures)
+    (c .before .before .before .before .before .find-fault .result) (c .before .before .before .before .before .find-fault .ensures) in
     found-nothing _ _ (sym (c .enum-told .given .1) ∙ said)
 
 returns-2 : tie.Need-returns-2
 returns-2 c =
-    let start = c .before .before .before .before .before .before .before .before .before .before .before .before .before .before .before .before .before .before .before .before .before .before .before .before .before .before .before in
-    let alone = c .before .before .before .before .before .before .before .before .before .before .before .before .before .before .before .before .before .before .before .before .before .alone in
-    let columns = c .before .before .before .before .before .before .before .before .before .before .before .before .before .before .before .before .before .join-on in
-    let tracks = c .before .before .before .before .before .before .before .before .before .before .before .before .before .join-on2 in
-    let roots = c .before .before .before .before .before .before .before .before .before .flatten in
-    let said = found-finding _ _ _ _ _ (start .pre) (alone .ensures) _ (columns .ensures) _ _ (tracks .ensures) (roots .ensures)
-    (c .before .before .before .before .before .find-fault .result) (c .before .before .before .before .before .find-fault .ensures) in
+    let start = c .before .before .before .before .before .before .before .before .before .before .before .before .before .before .before .before .before .before .before .before .before .before .before .before .before .before .before .before .before .before .before .before .before in
+    let alone = c .before .before .before .before .before .before .before .before .before .before .before .before .before .before .before .before .before .before .before .before .before .before .before .before .before .before .before .alone in
+    let columns = c .before .before .before .before .before .before .before .before .before .before .before .before .before .before .before .before .before .before .before .before .before .before .join-on in
+    let tracks = c .before .before .before .before .before .before .before .before .before .before .before .before .before .before .before .before .join-on2 in
+    let roots = c .before .before .before .before .before .before .before .before .before .before .before .flatten in
+    let said = found-finding _ _ _ _ _ (start .pre) (alone .ensures) _ (columns .ensures .0) _ _ (tracks .ensures .0) (roots .ensures)
+    (c .before .before .before .before .before .before .find-fault .result) (c .before .before .before .before .before .before .find-fault .ensures) in
     found-fault _ _ (c .before .fault .given .0 .0) (sym (c .before .fault .given .1) ∙ said)
 
 pub judge-elements-spec : {M : Type 1} → statement M
 judge-elements-spec =
     tie.close
-    (tie.spec (λ c. search needs) alone-requires (λ c. search needs) join-on-requires (λ c. search needs)
-    (λ c. search needs) join-on-requires-2 (λ c κs. search needs) find-fault-requires (λ c. search needs)
-    (λ c. search needs) (λ c. search needs) returns (λ c. search needs) returns-2)
+    (tie.spec (λ c. search needs) alone-requires (λ c. search needs) (λ c. search needs) join-on-requires
+    (λ c. search needs) (λ c. search needs) (λ c. search needs) join-on-requires-2 (λ c κs. search needs)
+    (λ c. search needs) find-fault-requires (λ c. search needs) (λ c. search needs) (λ c. search needs) returns
+    (λ c. search needs) returns-2)

@@ -1,10 +1,7 @@
 -- `find_fault` meets its contract: the first search leaves the marks as they are, so the others may be asked, and each
 -- return is what is found where the searches before it found nothing.
 use borrow.Author.Needs.{needs}
-use Prim.Native.Nat.{suc}
-use Rattle.channel.specs.Channel.{highestNet}
-use Rattle.judge.specs.FaultSteps.{blank-zeros, still-ready, finds-short, finds-open, finds-floating}
-use Rattle.judge.specs.FaultSteps.{finds-nothing}
+use Rattle.judge.specs.FaultSteps.{still-ready, finds-short, finds-open, finds-floating, finds-nothing}
 use Rattle.judge.proofs.faults.find_fault.Statement.{statement}
 use Rattle.judge.proofs.faults.find_fault.Tie as tie
 
@@ -13,32 +10,30 @@ returns c = finds-short (c .before .before .before .first-short .ensures) (c .if
 
 first-open-requires : tie.Need-first-open-requires
 first-open-requires c κs =
-    let short = c .before .before .before .before .before in (
-      still-ready (short .first-short .ensures) (short .before .before .before .before .before .pre .0),
-      blank-zeros (suc highestNet),
-    )
+    let pre = c .before .before .before .before .before .before .before .before .before .before .before .pre in
+    (still-ready (c .before .before .before .before .before .first-short .ensures) (pre .0), pre .2)
 
 returns-2 : tie.Need-returns-2
 returns-2 c =
-    finds-open (c .before .before .before .before .before .before .before .before .first-short .ensures)
-    (c .before .before .before .before .before .if1 .left) (c .before .before .first-open .ensures) (c .if2 .taken)
+    finds-open (c .before .before .before .before .before .before .before .before .before .first-short .ensures)
+    (c .before .before .before .before .before .before .if1 .left) (c .before .before .before .first-open .ensures) (c .if2 .taken)
 
 first-floating-requires : tie.Need-first-floating-requires
 first-floating-requires c κs =
-    let short = c .before .before .before .before .before .before .before .before .before in
-    let ready = still-ready (short .first-short .ensures) (short .before .before .before .before .before .pre .0) in
+    let ready = still-ready (c .before .before .before .before .before .before .before .before .before .before .first-short .ensures)
+    (c .before .before .before .before .before .before .before .before .before .before .before .before .before .before .before .before .pre .0) in
     (ready .long, ready .marked)
 
 returns-3 : tie.Need-returns-3
 returns-3 c =
-    let opened = c .before .before .before .before .before in
+    let opened = c .before .before .before .before .before .before in
     finds-floating (opened .before .before .before .before .before .before .first-short .ensures)
     (opened .before .before .before .if1 .left) (opened .first-open .ensures) (c .before .before .before .if2 .left)
     (c .before .first-floating .ensures) (c .if3 .taken)
 
 returns-4 : tie.Need-returns-4
 returns-4 c =
-    let opened = c .before .before .before .before .before in
+    let opened = c .before .before .before .before .before .before in
     finds-nothing (opened .before .before .before .before .before .before .first-short .ensures)
     (opened .before .before .before .if1 .left) (opened .first-open .ensures) (c .before .before .before .if2 .left)
     (c .before .first-floating .ensures) (c .if3 .left)
@@ -46,6 +41,6 @@ returns-4 c =
 pub find-fault-spec : {M : Type 1} → statement M
 find-fault-spec =
     tie.close
-    (tie.spec (λ c κs. search needs) (λ c. search needs) returns (λ c. search needs) first-open-requires
-    (λ c. search needs) returns-2 (λ c. search needs) first-floating-requires (λ c. search needs) returns-3
-    (λ c. search needs) returns-4)
+    (tie.spec (λ c κs. search needs) (λ c. search needs) returns first-open-requires (λ c. search needs)
+    (λ c. search needs) returns-2 (λ c. search needs) first-floating-requires (λ c. search needs) (λ c. search needs)
+    returns-3 (λ c. search needs) (λ c. search needs) returns-4)

@@ -1,12 +1,12 @@
 -- `first_open` meets its contract. The invariant: `firsts` has the mark of the first pin of each net before place i,
 -- and each pin of the net has it. What is left of the places falls.
-use Prim.Native.Nat.{ℕ, suc, _+_, _-_, _≤_, _<_}
+use Prim.Native.Nat.{ℕ, _+_, _-_, _≤_, _<_}
 use native.Mathlib.Omega.{arith}
 use mathlib.Core.Path.{_≡_, sym, _∙_, subst}
 use lib.ListN.{length, getD}
 use denote.Ref.{now}
 use borrow.Author.Tests.{not-true, not-false}
-use Rattle.channel.specs.Channel.{Channel, highestNet, width, rows}
+use Rattle.channel.specs.Channel.{Channel, widest, width, rows}
 use Rattle.classes.specs.Halves.{half, low-small}
 use Rattle.judge.specs.Searches.{FirstsKnown, firsts-none, no-open}
 use Rattle.judge.specs.FaultSteps.{marksIn, mark-at, firsts-next, firsts-refused, net-low}
@@ -15,7 +15,7 @@ use Rattle.judge.proofs.faults.first_open.Tie as tie
 
 abbrev Inv-loop : tie.InvT-loop
 Inv-loop top bot scratch firsts₀ i₀ firsts i =
-    (i ≤ length top + length top) × (length firsts ≡ suc highestNet)
+    (i ≤ length top + length top) × (length firsts ≡ widest + 1)
     × FirstsKnown (rows top bot) (marksIn scratch) firsts i
 
 abbrev μ-loop : tie.MeasureT-loop

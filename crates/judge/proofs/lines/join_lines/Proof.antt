@@ -63,9 +63,12 @@ same-length-3 c =
 
 returns : tie.Need-returns Inv-loop μ-loop
 returns c =
-    let made = c .before .before .before .before .before .before .chain-lines in
-    joining-whole (c .before .before .before .before .before .before .before .before .before .before .before .before .before .before .before .pre)
-    (made .kept .1 .1 .1 .1 .1 .0) (made .ensures) (c .before .loop .inv) (omega arith)
+    let made = c .before .before .before .before .before .before .chain-lines in (
+      joining-whole
+          (c .before .before .before .before .before .before .before .before .before .before .before .before .before .before .before .pre)
+          (made .kept .1 .1 .1 .1 .1 .0) (made .ensures) (c .before .loop .inv) (omega arith),
+      c .before .loop .inv .blank,
+    )
 
 pub join-lines-spec : {M : Type 1} → statement M
 join-lines-spec =
