@@ -127,4 +127,9 @@ static inline uint32_t plain_word(const uint8_t *at)
 /* Opens a board file of any bytes: 0 and its header, or refusal 8 or 9. */
 uint64_t plain_open(const uint8_t *board, size_t length, struct plain_header *header);
 
+/* What a judge is given: 0 and the header of a board that can be judged, or the first refusal that applies. */
+uint64_t plain_judgeable(const uint32_t *top, size_t top_length, const uint32_t *bot, size_t bot_length,
+                         const uint8_t *board, size_t board_length, size_t scratch_length,
+                         struct plain_header *header);
+
 #endif

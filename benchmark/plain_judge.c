@@ -151,20 +151,27 @@ static uint64_t find_fault(const struct plain_rows *rows, uint32_t *forest, size
     return 0;
 }
 
-uint64_t plain_judge(const uint32_t *top, size_t top_length, const uint32_t *bot, size_t bot_length,
-                     const uint8_t *board, size_t board_length, uint32_t *scratch, size_t scratch_length)
+uint64_t plain_judgeable(const uint32_t *top, size_t top_length, const uint32_t *bot, size_t bot_length,
+                         const uint8_t *board, size_t board_length, size_t scratch_length,
+                         struct plain_header *header)
 {
     if (scratch_length < PLAIN_SCRATCH)
         return plain_refused(1, PLAIN_SCRATCH);
     uint64_t refusal = plain_check(top, top_length, bot, bot_length);
-    if (refusal != 0)
-        return refusal;
+    if (refusal == 0)
+        refusal = plain_open(board, board_length, header);
+    if (refusal == 0 && header->width != top_length)
+        refusal = plain_refused(10, header->width);
+    return refusal;
+}
+
+uint64_t plain_judge(const uint32_t *top, size_t top_length, const uint32_t *bot, size_t bot_length,
+                     const uint8_t *board, size_t board_length, uint32_t *scratch, size_t scratch_length)
+{
     struct plain_header header;
-    refusal = plain_open(board, board_length, &header);
+    uint64_t refusal = plain_judgeable(top, top_length, bot, bot_length, board, board_length, scratch_length, &header);
     if (refusal != 0)
         return refusal;
-    if (header.width != top_length)
-        return plain_refused(10, header.width);
     struct plain_rows rows = {top, bot, top_length};
     struct judged in = {&rows, board, header.tracks};
     size_t n = 2 * rows.width + header.count;

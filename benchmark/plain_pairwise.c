@@ -115,17 +115,10 @@ static uint64_t find_fault(const struct plain_rows *rows, const uint32_t *marks,
 uint64_t plain_pairwise(const uint32_t *top, size_t top_length, const uint32_t *bot, size_t bot_length,
                         const uint8_t *board, size_t board_length, uint32_t *scratch, size_t scratch_length)
 {
-    if (scratch_length < PLAIN_SCRATCH)
-        return plain_refused(1, PLAIN_SCRATCH);
-    uint64_t refusal = plain_check(top, top_length, bot, bot_length);
-    if (refusal != 0)
-        return refusal;
     struct plain_header header;
-    refusal = plain_open(board, board_length, &header);
+    uint64_t refusal = plain_judgeable(top, top_length, bot, bot_length, board, board_length, scratch_length, &header);
     if (refusal != 0)
         return refusal;
-    if (header.width != top_length)
-        return plain_refused(10, header.width);
     struct plain_rows rows = {top, bot, top_length};
     uint32_t words[PLAIN_PIECES];
     for (size_t i = 0; i < header.count; i++)

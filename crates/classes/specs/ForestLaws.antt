@@ -1,18 +1,18 @@
 -- A root is its own parent, and what is the same for each element and its parent is the same for the whole class.
-use Prim.Native.Nat.{ℕ, zero, suc, min, max, _+_, _≤_, _<_}
+use Prim.Native.Nat.{ℕ, zero, suc, min, max, _≤_, _<_}
 use native.Mathlib.Omega.{arith}
 use native.Mathlib.Decide.{decLt}
 use mathlib.Core.Path.{_≡_, refl, sym, _∙_, ap, subst}
 use mathlib.Core.List.{List}
-use mathlib.Core.Bool.{Bool, true, false, cond}
-use mathlib.Core.Logic.{_⊎_, inl, inr, ⊎-elim}
+use mathlib.Core.Bool.{Bool, cond}
+use mathlib.Core.Logic.{_⊎_, ⊎-elim}
 use lib.ListN.{length, getD, set, length-set}
 use lib.Seq.{getD-set-same, getD-set-other}
 use lib.Dec.{eqb, eqb→eq, eqb-refl}
-use Rattle.lists.specs.Tests.{equal?, cases, true→T, false→fails, T→true, eq→T, fails→false}
-use Rattle.classes.specs.Halves.{half, lowHalf, highHalf, numberOf, low-small, low-number, high-number}
-use Rattle.classes.specs.Forest.{parentOf, secondOf, Forest, climb, rootOf, Same, hung, noted, merged, Kept, Joins}
-use Rattle.classes.specs.Forest.{Grown, Respects}
+use Rattle.lists.specs.Tests.{equal?, cases, T→true, fails→false}
+use Rattle.classes.specs.Halves.{half, lowHalf, highHalf, numberOf, low-number, high-number}
+use Rattle.classes.specs.Forest.{parentOf, secondOf, Forest, climb, rootOf, hung, merged, Kept, Joins}
+use Rattle.classes.specs.Forest.{Respects}
 
 module _ (s : List ℕ) (f : Forest s) where
   -- a root stays where it is

@@ -1,8 +1,8 @@
 -- What joins leave: classes that have grown, and no more than the joins ask for.
-use Prim.Native.Nat.{ℕ, min, max, _≤_, _<_}
+use Prim.Native.Nat.{ℕ, min, max, _<_}
 use native.Mathlib.Omega.{arith}
 use native.Mathlib.Decide.{decLt}
-use mathlib.Core.Path.{_≡_, refl, sym, _∙_, ap, ap₂}
+use mathlib.Core.Path.{_≡_, refl, sym, _∙_, ap}
 use mathlib.Core.List.{List}
 use mathlib.Core.Bool.{Bool, cond}
 use mathlib.Core.Logic.{⊎-elim}
@@ -10,7 +10,6 @@ use lib.ListN.{length}
 use lib.Dec.{eqb, eqb→eq, eqb-refl}
 use Rattle.lists.specs.Tests.{T→true, fails→false, equal?}
 use Rattle.classes.specs.Forest.{Forest, rootOf, Same, merged, Kept, Joins, Grown, Respects}
-use Rattle.classes.specs.ForestLaws.{root-below, root-root}
 
 pub grown-itself : {s : List ℕ} → Forest s → Grown s s
 grown-itself f = record { forest = f; size = refl; grows = λ a b la lb e. e; seconds = λ i l. refl }

@@ -32,10 +32,10 @@ pub high-none : highHalf 0 ≡ 0
 unfolding highHalf
 high-none = omega arith
 
--- the number with the greater high half is the greater
-pub high-rises : (a b : ℕ) → a < b → highHalf a < highHalf b + 1
+-- a number that is not less has a high half that is not less
+pub high-grows : (a b : ℕ) → a ≤ b → highHalf a ≤ highHalf b
 unfolding highHalf
-high-rises a b h = omega arith
+high-grows a b h = omega arith
 
 pub high-low : (v : ℕ) → v < half → highHalf v ≡ 0
 unfolding highHalf

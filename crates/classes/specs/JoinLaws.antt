@@ -1,12 +1,11 @@
 -- All lines joined: what the chains and the lines leave, seen from the forest before them; and two ways of lines, one
 -- after the other.
-use Prim.Native.Nat.{ℕ, _<_}
+use Prim.Native.Nat.{ℕ}
 use native.Mathlib.Omega.{arith}
-use mathlib.Core.Path.{_≡_, sym, _∙_, ap}
+use mathlib.Core.Path.{sym, _∙_, ap}
 use mathlib.Core.List.{List}
 use lib.ListN.{length}
 use Rattle.classes.specs.declared.Range.{Range}
-use Rattle.classes.specs.Forest.{Same, Respects}
 use Rattle.classes.specs.Lines.{RangesFit, LinesJoined, ChainsMade, AllJoined}
 
 pub all-joined : (R : ℕ → Range) (lines places : ℕ) (s heads s₀ s′ : List ℕ) → RangesFit R (length s) lines places

@@ -6,6 +6,7 @@ pub mod ForestLaws
 pub mod FlatLaws
 pub mod GrowLaws
 pub mod ChainLaws
+pub mod ChainSteps
 pub mod SweepLaws
 pub mod LineLaws
 pub mod JoinLaws

@@ -9,16 +9,13 @@ use lib.ListN.{length, getD}
 use lib.Seq.{getD-set-same, getD-set-other}
 use Rattle.lists.specs.Tests.{equal?}
 use Rattle.classes.specs.declared.Range.{Range}
-use Rattle.classes.specs.Halves.{half, lowHalf, highHalf, numberOf, low-number, high-number, high-none, low-same}
+use Rattle.classes.specs.Halves.{half, lowHalf, highHalf, numberOf, low-number, high-number, high-none, high-grows}
+use Rattle.classes.specs.Halves.{low-same}
 use Rattle.classes.specs.Forest.{Forest, rootOf, Same, Grown, Respects}
 use Rattle.classes.specs.GrowLaws.{grown-itself, grown-chained, kept-grown, joins-grown, joins-same}
 use Rattle.classes.specs.GrowLaws.{kept-respects, joins-respects}
 use Rattle.classes.specs.Sweep.{Sweepable, Enters, Swept}
 use Rattle.classes.specs.Lines.{Overlap, RangesFit, EntryOf, AlikeOn, Entered, LinesJoined}
-
-high-grows : (a b : ℕ) → a ≤ b → highHalf a ≤ highHalf b
-unfolding highHalf
-high-grows a b h = omega arith
 
 -- a number that reaches past a place is not 0
 high-real : (x v : ℕ) → x < highHalf v → 0 < v

@@ -16,14 +16,6 @@ use Rattle.lists.specs.Ranges.{place-member}
 use Rattle.classes.specs.Classes.{Marked, marksOf, marksMet, remark, addElement, classesFrom, classes}
 use Rattle.classes.specs.ClassLaws.{Classed, classes-classed, classes-elements}
 
--- each element has one mark
-pub length-marks : {A : Type 0} (touch : A → A → Bool) (xs : List A) → length (marksOf (classes touch xs)) ≡ length xs
-unfolding marksOf
-length-marks {A} touch xs =
-    let entries = classes touch xs in
-    length-map entries (λ (m : Marked A). m .mark) ∙ sym (length-map entries (λ (m : Marked A). m .element))
-    ∙ ap length (classes-elements touch xs)
-
 -- elements named by numbers: what is done to the names is done to the elements
 module _ {A : Type 0} (touch : A → A → Bool) (f : ℕ → A) where
   abbrev named : Marked ℕ → Marked A

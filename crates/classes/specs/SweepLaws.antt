@@ -10,7 +10,7 @@ use mathlib.Core.Logic.{_⊎_, inl, inr, ⊎-elim}
 use lib.ListN.{length, getD, set, length-set, List·getD-eq-default}
 use lib.Seq.{getD-set-same, getD-set-other}
 use Rattle.lists.specs.Tests.{equal?}
-use Rattle.classes.specs.Halves.{lowHalf, highHalf, high-times}
+use Rattle.classes.specs.Halves.{lowHalf, highHalf, high-times, high-grows}
 use Rattle.classes.specs.Forest.{Same, Grown, Respects}
 use Rattle.classes.specs.Sweep.{Sweepable, Passes, Swept}
 use Rattle.classes.specs.GrowLaws.{grown-itself, grown-chained, kept-grown, joins-grown, joins-same}
@@ -19,10 +19,6 @@ use Rattle.classes.specs.GrowLaws.{kept-respects, joins-respects}
 low-none : lowHalf 0 ≡ 0
 unfolding lowHalf
 low-none = omega arith
-
-high-most : (a b : ℕ) → a ≤ b → highHalf a ≤ highHalf b
-unfolding highHalf
-high-most a b h = omega arith
 
 -- ranges that overlap have one label
 abbrev pub OneLabel : (ℕ → ℕ) → List ℕ → Type 0
@@ -143,14 +139,14 @@ module _ (T s₀ : List ℕ) (i furthest : ℕ) (T′ s : List ℕ) (w : Sweepab
     next-behind : (a : ℕ) → a < i + 1 → highHalf (getD T a 0) ≤ highHalf r
     next-behind =
         let m = p .most in
-        let x = high-most furthest r (omega arith) in
-        below-more _ i (λ a la. let q = k .behind a la in omega arith) (high-most (getD T i 0) r (omega arith))
+        let x = high-grows furthest r (omega arith) in
+        below-more _ i (λ a la. let q = k .behind a la in omega arith) (high-grows (getD T i 0) r (omega arith))
 
     -- where what starts here reaches no further, all that reaches here is of one class with what reached furthest
     to-held : getD T i 0 ≤ furthest → (a : ℕ) → a < i + 1 → i < highHalf (getD T a 0)
         → Same s′ (lowHalf (getD T a 0)) (lowHalf furthest)
     to-held g =
-        let x = high-most (getD T i 0) furthest g in
+        let x = high-grows (getD T i 0) furthest g in
         let y = high-times (getD T i 0) in
         below-more _ i stays (λ h. sym (p .link (omega arith) (omega arith)))
 

@@ -5,11 +5,12 @@ use mathlib.Core.Path.{_≡_, refl, sym, _∙_, ap, subst}
 use mathlib.Core.List.{List, [], _∷_, map, List·Memᴰ, List·Memᴰ·head}
 use mathlib.Core.Bool.{Bool, true, false, _&&_, not}
 use mathlib.Core.Option.{Option, none, some}
-use lib.ListN.{length, getD, set, replicate, length-replicate, length-map, List·getD-map}
+use lib.ListN.{length, getD, set, length-map, List·getD-map}
 use lib.Seq.{map-set-same}
 use lib.Dec.{T, ltb, eqb, eqb→eq, eqb-refl}
 use Rattle.lists.specs.Lists.{keep, anyOf, upTo, headOr, at}
 use Rattle.lists.specs.Tests.{true→T, false→fails, not-fails, not-passes}
+use Rattle.lists.specs.Updates.{map-at, map-set}
 use Rattle.lists.specs.Members.{keep-member, upTo-member}
 use Rattle.grid.specs.Pieces.{Layout}
 use Rattle.channel.specs.Channel.{Channel, highestNet, width, positions, rows}
@@ -76,16 +77,6 @@ foundOf (some f) = found.Fault f
 abbrev pub Finds : Channel → List ℕ → Found → Type 0
 Finds ch s r =
     (l : Layout) → width ch + width ch + length (l .pieces) ≡ length s → r ≡ foundOf (foundBy ch l (marksIn s))
-
-map-at : (f : ℕ → ℕ) (s : List ℕ) (i : ℕ) → i < length s → getD (map f s) i 0 ≡ f (getD s i 0)
-map-at f [] i h = absurd (omega arith)
-map-at f (v ∷ s) zero h = refl
-map-at f (v ∷ s) (suc i) h = map-at f s i (omega arith)
-
-map-set : (f : ℕ → ℕ) (s : List ℕ) (i v : ℕ) → map f (set s i v) ≡ set (map f s) i (f v)
-map-set f [] i v = refl
-map-set f (w ∷ s) zero v = refl
-map-set f (w ∷ s) (suc i) v = ap (λ (t : List ℕ). f w ∷ t) (map-set f s i v)
 
 module _ (s : List ℕ) where
   pub marks-length : length (marksIn s) ≡ length s

@@ -14,7 +14,7 @@ use Rattle.classes.specs.LineLaws.{entered-sweepable, lines-none, lines-next}
 use Rattle.classes.specs.JoinLaws.{all-joined}
 use Rattle.channel.specs.Channel.{Channel}
 use Rattle.judge.specs.Ranges.{rangeOn}
-use Rattle.judge.specs.Tables.{Blank}
+use Rattle.lists.specs.Tables.{Blank}
 use Rattle.judge.specs.LineSteps.{ElementsIn, ChainReady, LineReady, LinesReady, JoinReady}
 
 pub chain-ready : {ch : Channel} {board : List ℕ} {t : ℕ} {across : Bool} {heads starts s : List ℕ}

@@ -14,11 +14,9 @@ pub mod Code
 pub mod Ranges
 pub mod RangeLaws
 pub mod BoxLaws
-pub mod Tables
 pub mod LineSteps
 pub mod RangeSteps
 pub mod FitLaws
-pub mod ChainSteps
 pub mod EnterSteps
 pub mod JoinSteps
 pub mod PlaceMarks

@@ -1,22 +1,21 @@
 -- The classes that the lines leave are those of the definition's marks.
-use Prim.Native.Nat.{ℕ, zero, suc, _+_, _-_, _*_, _≤_, _<_}
+use Prim.Native.Nat.{ℕ, zero, suc, _+_, _-_, _*_, _<_}
 use native.Mathlib.Omega.{arith}
 use native.Mathlib.Decide.{decLt}
 use mathlib.Core.Path.{_≡_, refl, sym, _∙_, ap, subst}
-use mathlib.Core.List.{List, _++_, map, List·Memᴰ}
+use mathlib.Core.List.{List, map}
 use mathlib.Core.Bool.{Bool, true, false, cond}
 use mathlib.Core.Logic.{_⊎_, inl, inr, ⊎-elim}
 use mathlib.Core.Option.{some}
 use lib.ListN.{length, getD, getElem?, length-append, length-map}
 use lib.Dec.{T, ltb, lt→ltb, ltb→lt}
-use Rattle.lists.specs.Lists.{from, upTo}
+use Rattle.lists.specs.Lists.{from}
 use Rattle.lists.specs.Tests.{T→true, fails→false}
 use Rattle.lists.specs.Places.{length-from, named-by-place}
 use Rattle.lists.specs.Ranges.{place-member}
-use Rattle.grid.specs.declared.Piece.{Piece}
 use Rattle.grid.specs.Pieces.{OnGrid, Layout}
 use Rattle.channel.specs.Channel.{Channel, width}
-use Rattle.wiring.specs.Pins.{Pin, top, bot, pinAt}
+use Rattle.wiring.specs.Pins.{Pin, pinAt}
 use Rattle.wiring.specs.Layouts.{Element, pin, copper, AllOnGrid}
 use Rattle.boardfile.specs.Open.{wordAt, pieceOf, fileTracks, fileCount, piecesFrom, fileLayout}
 use Rattle.boardfile.specs.FieldLaws.{opened-on-grid}
@@ -29,7 +28,7 @@ use Rattle.judge.specs.TouchTest.{test-sym, Placed}
 use Rattle.judge.specs.Finding.{marks}
 use Rattle.judge.specs.PinPlaces.{positionOf, position-pinAt}
 use Rattle.judge.specs.MarkLaws.{pin-place, piece-place, element→placed}
-use Rattle.judge.specs.Ranges.{inColumn, onTrack, elementAt, rangeOn}
+use Rattle.judge.specs.Ranges.{inColumn, elementAt, rangeOn}
 use Rattle.judge.specs.RangeLaws.{test→overlap, column→test, track→test}
 use Rattle.judge.specs.LineSteps.{Judgeable}
 

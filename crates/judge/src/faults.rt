@@ -8,7 +8,7 @@ ghost use Rattle.lists.specs.Lists.{headOr};
 ghost use Rattle.classes.specs.Halves.{half};
 ghost use Rattle.channel.specs.Channel.{widest, rows};
 ghost use Rattle.judge.specs.Finding.{opens};
-ghost use Rattle.judge.specs.Tables.{Blank};
+ghost use Rattle.lists.specs.Tables.{Blank};
 ghost use Rattle.judge.specs.FaultSteps.{Claimed, ClassClaimed, FaultReady, ShortFound, FirstFloating};
 ghost use Rattle.judge.specs.FaultSteps.{Finds, marksIn, ownersIn};
 use crate::Fault;

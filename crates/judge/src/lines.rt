@@ -5,7 +5,7 @@ ghost use lib.ListN.{getD};
 ghost use Rattle.classes.specs.Lines.{ChainsMade, Entered, AllJoined};
 ghost use Rattle.channel.specs.Channel.{widest, rows};
 ghost use Rattle.judge.specs.Ranges.{rangeOn};
-ghost use Rattle.judge.specs.Tables.{Blank};
+ghost use Rattle.lists.specs.Tables.{Blank};
 ghost use Rattle.judge.specs.LineSteps.{ChainReady, LineReady, LinesReady, JoinReady};
 use crate::ranges::range_on;
 use grid::COLUMN_SLOTS;

@@ -21,3 +21,4 @@ pub mod Overlays
 pub mod Collects
 pub mod Runs
 pub mod Maps
+pub mod Tables

@@ -1,14 +1,14 @@
 -- Lists by what functions give for their members, the same or undone. Arrays and ranges that change by one number: a
 -- store in an array by number, what `keep` has of a range that is one number longer, and the greatest with one member
 -- more.
-use Prim.Native.Nat.{ℕ, max, _+_, _<_}
+use Prim.Native.Nat.{ℕ, zero, suc, max, _+_, _<_}
 use native.Mathlib.Omega.{arith}
 use native.Mathlib.Numerals.{add-one}
 use mathlib.Core.Path.{_≡_, refl, sym, _∙_, ap}
 use mathlib.Core.List.{List, [], _∷_, _++_, map, List·Memᴰ, List·Memᴰ·head, List·Memᴰ·tail, append-nil}
 use mathlib.Core.Logic.{⊎-elim}
 use mathlib.Core.Bool.{Bool, cond}
-use lib.ListN.{set}
+use lib.ListN.{length, getD, set}
 use lib.Dec.{T}
 use borrow.Author.Tests.{eq-eqb, ne-eqb}
 use Rattle.lists.specs.Lists.{keep, from, upTo, greatest}
@@ -32,6 +32,17 @@ map-undone f g (x ∷ xs) h =
     let here = h x (List·Memᴰ·head refl) in
     let rest = map-undone f g xs (λ y m. h y (List·Memᴰ·tail m)) in
     cc
+
+-- what f gives for the member at a place, and for a store there
+pub map-at : (f : ℕ → ℕ) (xs : List ℕ) (i : ℕ) → i < length xs → getD (map f xs) i 0 ≡ f (getD xs i 0)
+map-at f [] i h = absurd (omega arith)
+map-at f (x ∷ xs) zero h = refl
+map-at f (x ∷ xs) (suc i) h = map-at f xs i (omega arith)
+
+pub map-set : (f : ℕ → ℕ) (xs : List ℕ) (i v : ℕ) → map f (set xs i v) ≡ set (map f xs) i (f v)
+map-set f [] i v = refl
+map-set f (x ∷ xs) zero v = refl
+map-set f (x ∷ xs) (suc i) v = ap (λ (ys : List ℕ). f x ∷ ys) (map-set f xs i v)
 
 -- a store at place j of what f gives makes what g gives, if g gives the new number for j and differs from f nowhere
 -- else

@@ -5,7 +5,7 @@ use Prim.Native.Nat.{_+_}
 use native.Mathlib.Omega.{arith}
 use mathlib.Core.Path.{refl, sym, _∙_}
 use Rattle.channel.specs.Channel.{widest}
-use Rattle.judge.specs.Tables.{blank-zeros}
+use Rattle.lists.specs.Tables.{blank-zeros}
 use Rattle.judge.specs.ElementSteps.{elements-few, columns-ready, tracks-ready, flat-ready, flat-unowned}
 use Rattle.judge.specs.ElementSteps.{found-finding}
 use Rattle.judge.specs.JudgeSteps.{found-nothing, found-fault}

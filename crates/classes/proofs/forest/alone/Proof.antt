@@ -1,5 +1,5 @@
 -- `alone` meets its contract. The invariant: the first i numbers are their places. What is left of them falls.
-use Prim.Native.Nat.{ℕ, _-_, _≤_}
+use Prim.Native.Nat.{_-_, _≤_}
 use native.Mathlib.Omega.{arith}
 use mathlib.Core.Path.{refl}
 use lib.ListN.{length}

@@ -2,12 +2,11 @@
 -- forest has the classes that it had. What is reached falls, since a parent that is not its child is below it.
 use Prim.Native.Nat.{ℕ, _≤_, _<_}
 use native.Mathlib.Omega.{arith}
-use mathlib.Core.Path.{_≡_, refl, sym, _∙_, ap, subst}
+use mathlib.Core.Path.{_≡_, refl, sym, _∙_}
 use mathlib.Core.List.{List}
 use lib.ListN.{length}
-use denote.Ref.{now}
 use Rattle.classes.specs.Halves.{half}
-use Rattle.classes.specs.Forest.{parentOf, Forest, rootOf, Kept}
+use Rattle.classes.specs.Forest.{parentOf, rootOf, Kept}
 use Rattle.classes.specs.ForestLaws.{kept-itself, own-root, higher-up}
 use Rattle.classes.proofs.forest.find.Statement.{statement}
 use Rattle.classes.proofs.forest.find.Tie as tie

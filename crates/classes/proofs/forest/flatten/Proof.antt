@@ -1,6 +1,6 @@
 -- `flatten` meets its contract. The invariant: the first i numbers are the roots of their elements. What is left of
 -- them falls.
-use Prim.Native.Nat.{ℕ, _-_, _≤_}
+use Prim.Native.Nat.{_-_, _≤_}
 use native.Mathlib.Omega.{arith}
 use mathlib.Core.Path.{refl, _∙_}
 use lib.ListN.{length}

@@ -7,7 +7,7 @@ use lib.ListN.{length}
 use Rattle.channel.specs.Channel.{rows}
 use Rattle.judge.specs.Ranges.{rangeOn}
 use Rattle.judge.specs.FitLaws.{place-ready}
-use Rattle.judge.specs.ChainSteps.{ChainedTo, chained-to-none, push-ready, chained-to-next, chained-to-whole}
+use Rattle.classes.specs.ChainSteps.{ChainedTo, chained-to-none, push-ready, chained-to-next, chained-to-whole}
 use Rattle.judge.proofs.lines.chain_lines.Statement.{statement}
 use Rattle.judge.proofs.lines.chain_lines.Tie as tie
 

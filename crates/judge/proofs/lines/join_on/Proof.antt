@@ -5,7 +5,7 @@ use Prim.Native.Nat.{_+_}
 use native.Mathlib.Omega.{arith}
 use mathlib.Core.Path.{sym}
 use Rattle.channel.specs.Channel.{widest}
-use Rattle.judge.specs.Tables.{blank-zeros, front-blank, blank-again}
+use Rattle.lists.specs.Tables.{blank-zeros, front-blank, blank-again}
 use Rattle.judge.specs.JoinSteps.{lines-ready}
 use Rattle.judge.proofs.lines.join_on.Statement.{statement}
 use Rattle.judge.proofs.lines.join_on.Tie as tie

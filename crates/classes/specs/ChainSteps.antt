@@ -1,15 +1,15 @@
--- The chains of the first elements, as `chain_lines` makes them one by one.
+-- The chains of the first elements, as they are made one by one.
 use Prim.Native.Nat.{ℕ, _+_, _≤_, _<_}
 use native.Mathlib.Omega.{arith}
 use mathlib.Core.Path.{_≡_, refl, _∙_, ap}
 use mathlib.Core.List.{List}
 use lib.ListN.{length, getD, set, length-set}
 use Rattle.classes.specs.declared.Range.{Range}
 use Rattle.classes.specs.Halves.{half}
 use Rattle.classes.specs.Forest.{Forest, rootOf, noted}
 use Rattle.classes.specs.Lines.{Chained, ChainsMade}
 use Rattle.classes.specs.ChainLaws.{chained-none, chained-next, last-below}
 use Rattle.classes.specs.ChainLaws.{noted-size, noted-forest, noted-roots}
 
 -- the first i elements are in chains, and the classes are as they were
 pub record ChainedTo (R : ℕ → Range) (heads₀ s₀ : List ℕ) (i : ℕ) (heads s : List ℕ) : Type 0 where
