@@ -51,7 +51,8 @@
 extern "C" {
 #endif
 
-/* The lengths that refusal 1 asks for: numbers in a row, a ring and scratch, bytes in a board. */
+/* The lengths that refusal 1 asks for: numbers in a row, a ring and scratch, bytes in a board. Scratch has a number for
+ * each pin and piece that there can be: two rows of 512, and 4,095 pieces. */
 enum {
     CABJIRT_ROW = 512,
     CABJIRT_RING = 1022,

@@ -1,7 +1,7 @@
 // The grid of a board: its numbers, each with a type of its own so that a column is never taken where a track is due,
 // and the pieces of copper that lie on it.
 ghost use mathlib.Core.Path.{_≡_};
-ghost use Rattle.grid.specs.Touching.{kindsMeet, pinMeets};
+ghost use Rattle.grid.specs.Touching.{kindsMeet};
 
 pub const WIDEST: usize = 512;
 
@@ -55,11 +55,4 @@ pub fn kinds_meet(a: u32, b: u32) -> bool
     ensures { λ r. ⌜ r ≡ kindsMeet a b ⌝ }
 {
     (a == b) | ((a == CONTACT) | (b == CONTACT))
-}
-
-// Whether a pin touches a piece of this kind that covers its point.
-pub fn pin_meets(kind: u32) -> bool
-    ensures { λ r. ⌜ r ≡ pinMeets kind ⌝ }
-{
-    kind == BRANCH
 }

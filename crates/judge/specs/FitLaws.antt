@@ -12,6 +12,7 @@ use Rattle.lists.specs.Tests.{true→T, false→fails}
 use Rattle.grid.specs.declared.Piece.{Piece}
 use Rattle.grid.specs.declared.Piece.the-variants.{Trunk, Branch, Contact}
 use Rattle.grid.specs.Pieces.{kindOf, left, right, low, high, OnGrid}
+use Rattle.grid.specs.Touching.{kindsMeet}
 use Rattle.grid.specs.WordLaws.{right→on-grid}
 use Rattle.channel.specs.Channel.{Channel, width}
 use Rattle.wiring.specs.Pins.{Pin, top, bot, columnOf, rowOf, netOf, pinAt}
@@ -69,7 +70,7 @@ pin-in-column ch t x h = record { lined = line (ltb 0 (netOf ch x)); wide = omeg
 
 piece-in-column : (ch : Channel) (t : ℕ) (p : Piece) → OnGrid (width ch) t p
     → Fits (width ch + 1) (t + 2) (inColumn ch t (copper p))
-unfolding inColumn kindOf left right low high OnGrid
+unfolding inColumn kindOf left right low high OnGrid kindsMeet
 piece-in-column ch t (Trunk k a b) g = record { lined = omega arith; wide = omega arith; placed = omega arith }
 piece-in-column ch t (Branch c a b) g = record { lined = omega arith; wide = omega arith; placed = omega arith }
 piece-in-column ch t (Contact c k) g = record { lined = omega arith; wide = omega arith; placed = omega arith }
@@ -80,7 +81,7 @@ pin-on-track ch t x h = record { lined = omega arith; wide = omega arith; placed
 
 piece-on-track : (ch : Channel) (t : ℕ) (p : Piece) → OnGrid (width ch) t p
     → Fits (t + 1) (width ch + 1) (onTrack (copper p))
-unfolding onTrack kindOf left right low high OnGrid
+unfolding onTrack kindOf left right low high OnGrid kindsMeet
 piece-on-track ch t (Trunk k a b) g = record { lined = omega arith; wide = omega arith; placed = omega arith }
 piece-on-track ch t (Branch c a b) g = record { lined = omega arith; wide = omega arith; placed = omega arith }
 piece-on-track ch t (Contact c k) g = record { lined = omega arith; wide = omega arith; placed = omega arith }

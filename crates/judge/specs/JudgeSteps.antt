@@ -99,7 +99,7 @@ module _ (ch : Channel) (board : List ℕ) (n : ℕ) where
       (rw (T→true (ltb n scratchTray) (lt→ltb n scratchTray h))))
 
   module _ (room : scratchTray ≤ n) where
-    past-short : judgeRefusal ch board n ≡ (rowsRefusal ch or-else openRefusal board or-else wrongBoard ch board)
+    pub past-short : judgeRefusal ch board n ≡ (rowsRefusal ch or-else openRefusal board or-else wrongBoard ch board)
     unfolding judgeRefusal tray
     past-short =
         none-or-else-later (shortTray (tray ∷ [])) (rowsRefusal ch or-else openRefusal board or-else wrongBoard ch

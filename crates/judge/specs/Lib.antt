@@ -24,4 +24,5 @@ pub mod Searches
 pub mod FaultSteps
 pub mod ElementSteps
 pub mod JudgeSteps
+pub mod ScratchLaws
 pub mod ToldLaws

@@ -6,17 +6,18 @@ use mathlib.Core.Logic.{_↔_}
 use mathlib.Core.Option.{none, some}
 use lib.ListN.{getElem?}
 use Rattle.lists.specs.Lists.{Lowest}
+use Rattle.refusal.specs.declared.Refusal.the-variants.{ShortTray}
 use Rattle.refusal.specs.Trays.{scratchTray}
 use Rattle.grid.specs.declared.Piece.{Piece}
 use Rattle.grid.specs.Pieces.{Layout}
-use Rattle.channel.specs.Channel.{Channel, width}
+use Rattle.channel.specs.Channel.{Channel, widest, width}
 use Rattle.channel.specs.Answers.{Escapes}
 use Rattle.wiring.specs.Pins.{Pin, netOf, IsPin, pinAt}
 use Rattle.wiring.specs.Layouts.{Good, AllOnGrid, pin, copper, Joined}
 use Rattle.boardfile.specs.Open.{openRefusal, fileWidth, fileLayout}
 use Rattle.judge.specs.declared.Fault.the-variants.{Short, Open, Floating}
 use Rattle.judge.specs.declared.JudgeAnswer.{JudgeAnswer}
-use Rattle.judge.specs.declared.JudgeAnswer.the-variants.{Faulty}
+use Rattle.judge.specs.declared.JudgeAnswer.the-variants.{Faulty, Refused}
 use Rattle.judge.specs.Finding.{finding}
 use Rattle.judge.specs.Answers.{judgeAnswer, judgeTold}
 
@@ -71,6 +72,15 @@ pub record Passable (ch : Channel) (board : List ℕ) (scratch : ℕ) : Type 0 w
   pub opens : openRefusal board ≡ none
   pub sameWidth : fileWidth board ≡ width ch
   pub good : Good ch (fileLayout board)
+
+-- 02, Req 10: "The judge is to work in 5,119, one for each possible piece and pin, and give the same finding for every
+-- board. Refusal 1 for scratch follows." A board file counts at most 4,095 pieces; two rows have at most 1,024 pins
+pub record ScratchPromise : Type 0 where
+  pub one-each : scratchTray ≡ widest + widest + 4095
+  pub short : (ch : Channel) (board : List ℕ) (scratch : ℕ) → scratch < scratchTray
+      → judgeAnswer ch board scratch ≡ Refused (ShortTray 5119)
+  pub same : (ch : Channel) (board : List ℕ) (scratch : ℕ) → scratchTray ≤ scratch
+      → judgeAnswer ch board scratch ≡ judgeAnswer ch board scratchTray
 
 -- on bytes: "The judge passes a board exactly when .."
 abbrev pub Demand2OnBytes : Type 0

@@ -93,14 +93,14 @@ track→near (Contact k a) (Contact l d) o = record { meets = tt; boxes = omega 
 -- a pin and a piece: only a branch meets a pin, and only a branch has points in a pin's row and column
 pin-touch→overlap : (ch : Channel) (t : ℕ) (x : Pin) (p : Piece) → OnGrid (width ch) t p → IsPin ch x → PinTouch t x p
     → Overlap (inColumn ch t (pin x)) (inColumn ch t (copper p))
-unfolding inColumn kindOf left right low high OnGrid pinMeets
+unfolding inColumn kindOf left right low high OnGrid kindsMeet pinMeets
 pin-touch→overlap ch t x (Trunk k a b) g i m = absurd (m .meets)
 pin-touch→overlap ch t x (Branch k a b) g i m = let e = pin-line ch t x i in omega arith
 pin-touch→overlap ch t x (Contact k a) g i m = absurd (m .meets)
 
 overlap→pin-touch : (ch : Channel) (t : ℕ) (x : Pin) (p : Piece) → OnGrid (width ch) t p
     → Overlap (inColumn ch t (pin x)) (inColumn ch t (copper p)) → IsPin ch x × PinTouch t x p
-unfolding inColumn kindOf left right low high OnGrid pinMeets rowOf
+unfolding inColumn kindOf left right low high OnGrid kindsMeet pinMeets rowOf
 overlap→pin-touch ch t x (Trunk k a b) g o = absurd (omega arith)
 overlap→pin-touch ch t x (Branch k a b) g o =
     let i = line-pin ch t x (o .real) in

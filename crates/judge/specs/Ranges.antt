@@ -1,13 +1,14 @@
--- Where an element lies on a line of the grid: a pin, a branch and a contact on their column, with the rows that they
--- cover; a trunk and a contact on their track, with the columns. Line 0 is none.
+-- Where an element lies on a line of the grid: a pin, and what meets branches, on its column, with the rows that it
+-- covers; what meets trunks on its track, with the columns. Line 0 is none.
 use Prim.Native.Nat.{ℕ, suc, _+_, _-_, _*_, _≤_, _<_}
 use mathlib.Core.Path.{_≡_}
 use mathlib.Core.List.{List}
 use mathlib.Core.Bool.{Bool, cond}
 use lib.ListN.{length}
-use lib.Dec.{ltb, eqb}
+use lib.Dec.{ltb}
 use Rattle.classes.specs.declared.Range.{Range}
 use Rattle.grid.specs.Pieces.{kindOf, trunkKind, branchKind, left, right, low, high}
+use Rattle.grid.specs.Touching.{kindsMeet}
 use Rattle.channel.specs.Channel.{Channel, widest, width}
 use Rattle.wiring.specs.Pins.{columnOf, rowOf, netOf, pinAt}
 use Rattle.wiring.specs.Layouts.{Element, pin, copper}
@@ -18,12 +19,12 @@ unfoldable pub inColumn : Channel → ℕ → Element → Range
 inColumn ch t (pin x) =
     record { line = cond (ltb 0 (netOf ch x)) (columnOf x) 0; start = rowOf t x; past = rowOf t x + 1 }
 inColumn ch t (copper p) =
-    record { line = cond (eqb (kindOf p) trunkKind) 0 (left p); start = low p; past = high p + 1 }
+    record { line = cond (kindsMeet (kindOf p) branchKind) (left p) 0; start = low p; past = high p + 1 }
 
 unfoldable pub onTrack : Element → Range
 onTrack (pin x) = record { line = 0; start = 0; past = 1 }
 onTrack (copper p) =
-    record { line = cond (eqb (kindOf p) branchKind) 0 (low p); start = left p; past = right p + 1 }
+    record { line = cond (kindsMeet (kindOf p) trunkKind) (low p) 0; start = left p; past = right p + 1 }
 
 -- the range of a pin place, by its net, column and row; and those of a box
 unfoldable pub pinRange : ℕ → ℕ → ℕ → Range
@@ -31,11 +32,11 @@ pinRange net column row = record { line = cond (ltb 0 net) column 0; start = row
 
 unfoldable pub coverColumn : Cover → Range
 coverColumn c =
-    record { line = cond (eqb (c .kind) trunkKind) 0 (c .left .0); start = c .low .0; past = c .high .0 + 1 }
+    record { line = cond (kindsMeet (c .kind) branchKind) (c .left .0) 0; start = c .low .0; past = c .high .0 + 1 }
 
 unfoldable pub coverTrack : Cover → Range
 coverTrack c =
-    record { line = cond (eqb (c .kind) branchKind) 0 (c .low .0); start = c .left .0; past = c .right .0 + 1 }
+    record { line = cond (kindsMeet (c .kind) trunkKind) (c .low .0) 0; start = c .left .0; past = c .right .0 + 1 }
 
 -- element i of a board, from 0: the pin places in order of position, then the pieces of the file
 unfoldable pub elementAt : Channel → List ℕ → ℕ → Element

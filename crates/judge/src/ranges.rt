@@ -23,25 +23,25 @@ fn pin_range(net: u32, column: usize, row: u32) -> Range
     }
 }
 
-// The rows that a branch or a contact covers in its column.
+// The rows that a piece covers in its column, if it meets branches.
 fn cover_in_column(c: Cover) -> Range
     requires { ⌜ c .high .0 < 1024 ⌝ }
     ensures { λ r. ⌜ r ≡ coverColumn c ⌝ }
 {
     Range {
-        line: pick(c.kind == TRUNK, 0, c.left.0),
+        line: pick(grid::kinds_meet(c.kind, BRANCH), c.left.0, 0),
         start: c.low.0,
         past: c.high.0 + 1,
     }
 }
 
-// The columns that a trunk or a contact covers on its track.
+// The columns that a piece covers on its track, if it meets trunks.
 fn cover_on_track(c: Cover) -> Range
     requires { ⌜ c .right .0 < 1024 ⌝ }
     ensures { λ r. ⌜ r ≡ coverTrack c ⌝ }
 {
     Range {
-        line: pick(c.kind == BRANCH, 0, c.low.0),
+        line: pick(grid::kinds_meet(c.kind, TRUNK), c.low.0, 0),
         start: c.left.0,
         past: c.right.0 + 1,
     }

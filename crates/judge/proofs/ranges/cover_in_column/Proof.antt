@@ -9,4 +9,4 @@ unfolding coverColumn
 returns c = cc
 
 pub cover-in-column-spec : {M : Type 1} → statement M
-cover-in-column-spec = tie.close (tie.spec (λ c κs. search needs) (λ c. search needs) returns)
+cover-in-column-spec = tie.close (tie.spec (λ c κs. search needs) (λ c κs. search needs) (λ c. search needs) returns)

@@ -9,4 +9,4 @@ unfolding coverTrack
 returns c = cc
 
 pub cover-on-track-spec : {M : Type 1} → statement M
-cover-on-track-spec = tie.close (tie.spec (λ c κs. search needs) (λ c. search needs) returns)
+cover-on-track-spec = tie.close (tie.spec (λ c κs. search needs) (λ c κs. search needs) (λ c. search needs) returns)
