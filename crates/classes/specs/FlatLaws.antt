@@ -73,7 +73,10 @@ pub alone-forest : (n : ℕ) (s : List ℕ) → n ≤ half → length s ≡ n �
     → rootOf s i ≡ i)
 unfolding parentOf
 alone-forest n s small size e =
-    let forest : Forest s = record { small = omega arith; rising = λ i l. let q = own i (omega arith) in omega arith } in
+    let forest : Forest s = record {
+      small = omega arith;
+      rising = λ i l. let q = own i (omega arith) in omega arith;
+    } in
     (forest, λ i l. own-root s forest i (own i l))
   where
     own : (i : ℕ) → i < n → parentOf s i ≡ i

@@ -68,9 +68,6 @@ module _ (s : List ℕ) (f : Forest s) where
       let b = root-below i l in
       sym (label-respects label same i l ∙ own (rootOf s i) (omega arith) (root-own i l))
 
-  pub root-root : (i : ℕ) → i < length s → rootOf s (rootOf s i) ≡ rootOf s i
-  root-root i l = own-root (rootOf s i) (root-own i l)
-
   -- more steps than the root needs change nothing
   climb-last : (k i : ℕ) → climb s (suc k) i ≡ parentOf s (climb s k i)
   unfolding climb
@@ -224,7 +221,8 @@ higher-up s₀ s at up higher s′ k l e out e′ e″ =
       below = omega arith;
       root = sym (k .roots higher (omega arith)) ∙ same ∙ k .roots at l;
       kept =
-          kept-chained k (subst (Kept s) (sym e″) (hung-kept s at higher (omega arith) (omega arith) f (omega arith) same));
+          kept-chained k (subst (Kept s) (sym e″)
+          (hung-kept s at higher (omega arith) (omega arith) f (omega arith) same));
     }
 
 -- the root of a class is its own parent after the finds too

@@ -9,8 +9,8 @@ use lib.ListN.{length, getD}
 use lib.Seq.{getD-set-same, getD-set-other}
 use Rattle.lists.specs.Tests.{equal?}
 use Rattle.classes.specs.declared.Range.{Range}
-use Rattle.classes.specs.Halves.{half, lowHalf, highHalf, numberOf, low-number, high-number, high-none, high-grows}
-use Rattle.classes.specs.Halves.{low-same}
+use Rattle.classes.specs.Halves.{half, lowHalf, highHalf, numberOf, low-number, low-same, high-number}
+use Rattle.classes.specs.Halves.{high-none, high-grows}
 use Rattle.classes.specs.Forest.{Forest, rootOf, Same, Grown, Respects}
 use Rattle.classes.specs.GrowLaws.{grown-itself, grown-chained, kept-grown, joins-grown, joins-same}
 use Rattle.classes.specs.GrowLaws.{kept-respects, joins-respects}

@@ -6,7 +6,7 @@ use mathlib.Core.Path.{_≡_, refl, sym, _∙_, ap}
 use mathlib.Core.List.{List, [], _∷_, map, map-map, map-append, List·Memᴰ}
 use mathlib.Core.Bool.{Bool, true, false, cond}
 use mathlib.Core.Option.{some}
-use lib.ListN.{length, getD, getElem?, length-map}
+use lib.ListN.{getD, getElem?}
 use lib.Dec.{T}
 use Rattle.lists.specs.Lists.{from, keep, headOr}
 use Rattle.lists.specs.Members.{from-member}

@@ -11,7 +11,10 @@ use crate::halves::number;
 
 // Puts an element in front of a line's chain.
 pub fn push(heads: &mut [u32], forest: &mut [u32], line: usize, i: usize)
-    requires { ⌜ (line < length (now heads)) × (i < length (now forest)) × (i < half) × (getD (now heads) line 0 < half) ⌝ }
+    requires { ⌜ (line < length (now heads))
+        × (i < length (now forest))
+        × (i < half)
+        × (getD (now heads) line 0 < half) ⌝ }
     ensures { λ _.
         ⌜ (now (heads .exit) ≡ set (now (heads .entry)) line (i + 1))
         × (now (forest .exit) ≡ noted (now (forest .entry)) i (getD (now (heads .entry)) line 0)) ⌝ }

@@ -84,55 +84,56 @@ module _ {ch : Channel} {board : List ℕ} {t : ℕ} {across : Bool} {heads₀ s
       (subst (λ (k : ℕ). LinesJoined (rangeOn across ch t board) k s₁ s) e (h .joined))
 
 module _ {ch : Channel} {board : List ℕ} {t : ℕ} {across : Bool} {heads starts₀ s₁ : List ℕ} {line : ℕ}
-    {starts s : List ℕ} (h : Joining ch board t across heads starts₀ s₁ line starts s) (more : line < length heads) where
-  -- what the next line asks, before it is entered and before it is swept
-  pub line-ready : LineReady ch board t across heads line starts s
-  line-ready =
-      let k = h .joined .grown .size in
-      let q = h .size in
-      let r = h .real in
-      let f = h .few in
-      record {
-        elements =
-            record {
-              judgeable = h .elements .judgeable;
-              count = k ∙ h .elements .count;
-              forest = h .joined .grown .forest;
-            };
-        fits = rw (k, q) (h .fits);
-        chained =
-            rw k (chained-grown (rangeOn across ch t board) (length s₁) heads s₁ s (omega arith) (h .chained)
-            (h .joined .grown));
-        real = omega arith;
-        blank = h .blank;
-        few = omega arith;
-      }
-
-  module _ {starts′ s′ : List ℕ} (entered : Entered (rangeOn across ch t board) line 0 starts′ s s′)
-      (size : length starts′ ≡ length starts) where
-    pub sweep-ready : Sweepable starts′ s′ × (length starts′ < half)
-    sweep-ready =
+    {starts s : List ℕ} (h : Joining ch board t across heads starts₀ s₁ line starts s) (more : line < length heads)
+  where
+    -- what the next line asks, before it is entered and before it is swept
+    pub line-ready : LineReady ch board t across heads line starts s
+    line-ready =
         let k = h .joined .grown .size in
-        let n = h .elements .count in
-        let w = h .elements .judgeable .escapes .wide in
         let q = h .size in
-        let f = h .few in
-        (entered-sweepable (rangeOn across ch t board) line 0 starts′ s s′ entered (omega arith), omega arith)
-
-    pub joining-next : {starts″ s″ : List ℕ} → length starts″ ≡ length starts′ → Swept starts′ s′ starts″ s″
-        → Joining ch board t across heads starts₀ s₁ (line + 1) starts″ s″
-    joining-next {starts″} {s″} e swept =
         let r = h .real in
-        let q = h .size in
+        let f = h .few in
         record {
-          elements = h .elements;
-          fits = h .fits;
-          chained = h .chained;
-          few = h .few;
+          elements =
+              record {
+                judgeable = h .elements .judgeable;
+                count = k ∙ h .elements .count;
+                forest = h .joined .grown .forest;
+              };
+          fits = rw (k, q) (h .fits);
+          chained =
+              rw k (chained-grown (rangeOn across ch t board) (length s₁) heads s₁ s (omega arith) (h .chained)
+              (h .joined .grown));
           real = omega arith;
-          size = e ∙ size ∙ q;
-          blank = swept .clear;
-          joined =
-              rw add-one (lines-next (rangeOn across ch t board) line (length heads) (length starts₀) starts′ s₁ s s′
-              starts″ s″ (h .fits) (omega arith) (size ∙ q) (h .joined) entered swept);
+          blank = h .blank;
+          few = omega arith;
         }
+
+    module _ {starts′ s′ : List ℕ} (entered : Entered (rangeOn across ch t board) line 0 starts′ s s′)
+        (size : length starts′ ≡ length starts) where
+      pub sweep-ready : Sweepable starts′ s′ × (length starts′ < half)
+      sweep-ready =
+          let k = h .joined .grown .size in
+          let n = h .elements .count in
+          let w = h .elements .judgeable .escapes .wide in
+          let q = h .size in
+          let f = h .few in
+          (entered-sweepable (rangeOn across ch t board) line 0 starts′ s s′ entered (omega arith), omega arith)
+
+      pub joining-next : {starts″ s″ : List ℕ} → length starts″ ≡ length starts′ → Swept starts′ s′ starts″ s″
+          → Joining ch board t across heads starts₀ s₁ (line + 1) starts″ s″
+      joining-next {starts″} {s″} e swept =
+          let r = h .real in
+          let q = h .size in
+          record {
+            elements = h .elements;
+            fits = h .fits;
+            chained = h .chained;
+            few = h .few;
+            real = omega arith;
+            size = e ∙ size ∙ q;
+            blank = swept .clear;
+            joined =
+                rw add-one (lines-next (rangeOn across ch t board) line (length heads) (length starts₀) starts′ s₁ s s′
+                starts″ s″ (h .fits) (omega arith) (size ∙ q) (h .joined) entered swept);
+          }

@@ -11,7 +11,7 @@ use Rattle.channel.specs.Channel.{Channel}
 use Rattle.boardfile.specs.Open.{fileTracks, fileLayout}
 use Rattle.judge.specs.declared.JudgeAnswer.the-variants.{Refused}
 use Rattle.judge.specs.Finding.{finding}
-use Rattle.judge.specs.Answers.{judgeRefusal, judged, judgeAnswer}
+use Rattle.judge.specs.Answers.{judged, judgeAnswer}
 use Rattle.judge.specs.Promise.{ScratchPromise}
 use Rattle.judge.specs.JudgeSteps.{past-short, answer-short}
 

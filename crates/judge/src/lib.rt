@@ -56,8 +56,8 @@ pub fn fault_place(fault: Fault) -> usize
     }
 }
 
-// Judges the elements of a board, its pin places and pieces, with a number of scratch for each. The table, by place of a
-// line and then by net, is blank at each use.
+// Judges the elements of a board, its pin places and pieces, with a number of scratch for each. The table, by place of
+// a line and then by net, is blank at each use.
 fn judge_elements(
     top: &[u32],
     bot: &[u32],

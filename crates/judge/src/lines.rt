@@ -46,7 +46,8 @@ fn enter_line(
     starts: &mut [u32],
     forest: &mut [u32],
 )
-    requires { ⌜ LineReady (rows (now top) (now bot)) (now board) tracks across (now heads) line (now starts) (now forest) ⌝ }
+    requires { ⌜ LineReady (rows (now top) (now bot)) (now board) tracks across (now heads) line (now starts)
+        (now forest) ⌝ }
     ensures { λ _.
         ⌜ Entered (rangeOn across (rows (now (top .entry)) (now (bot .entry))) tracks (now (board .entry))) line 0
         (now (starts .exit)) (now (forest .entry)) (now (forest .exit)) ⌝ }
@@ -72,7 +73,8 @@ fn join_lines(
     starts: &mut [u32],
     forest: &mut [u32],
 )
-    requires { ⌜ LinesReady (rows (now top) (now bot)) (now board) tracks across (now heads) (now starts) (now forest) ⌝ }
+    requires { ⌜ LinesReady (rows (now top) (now bot)) (now board) tracks across (now heads) (now starts)
+        (now forest) ⌝ }
     ensures { λ _.
         ⌜ AllJoined (rangeOn across (rows (now (top .entry)) (now (bot .entry))) tracks (now (board .entry)))
         (now (forest .entry)) (now (forest .exit))

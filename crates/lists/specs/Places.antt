@@ -67,7 +67,8 @@ named-by-place f a [] h = refl
 named-by-place f a (x ∷ xs) h =
     let head : some x ≡ some (f (a + 0)) = h 0 (omega arith) in
     let here : x ≡ f (a + 0) = cc in
-    let rest = named-by-place f (suc a) xs (λ i l. h (suc i) (omega arith) ∙ ap (λ (k : ℕ). some (f k)) (omega arith)) in
+    let rest = named-by-place f (suc a) xs
+    (λ i l. h (suc i) (omega arith) ∙ ap (λ (k : ℕ). some (f k)) (omega arith)) in
     ap₂ (λ y ys. y ∷ ys) (here ∙ ap f (omega arith)) rest
 
 -- the same for `at`, which counts from 1

@@ -43,8 +43,8 @@ again-free (suc k) (v ∷ front) (w ∷ table) e f h (suc i) =
     again-free k front table (omega arith) (λ j. f (suc j)) (λ j. h (suc j)) i
 
 -- and the table with a front that is free again
-pub blank-again : {n : ℕ} {table : List ℕ} (front : List ℕ) (k : ℕ) → Blank n table → length front ≡ length (take k table)
-    → ((i : ℕ) → getD front i 0 ≡ 0) → Blank n (front ++ drop k table)
+pub blank-again : {n : ℕ} {table : List ℕ} (front : List ℕ) (k : ℕ) → Blank n table
+    → length front ≡ length (take k table) → ((i : ℕ) → getD front i 0 ≡ 0) → Blank n (front ++ drop k table)
 blank-again {n} {table} front k b e f =
     record {
       places = length-front table front k e ∙ b .places;

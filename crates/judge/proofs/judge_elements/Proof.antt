@@ -1,5 +1,5 @@
--- `judge_elements` meets its contract: the elements are alone, then joined on the columns and on the tracks; so two have
--- one root exactly if they have one mark, and what is found by the roots is the finding.
+-- `judge_elements` meets its contract: the elements are alone, then joined on the columns and on the tracks; so two
+-- have one root exactly if they have one mark, and what is found by the roots is the finding.
 use borrow.Author.Needs.{needs}
 use Prim.Native.Nat.{_+_}
 use native.Mathlib.Omega.{arith}
@@ -20,53 +20,56 @@ alone-requires c κs =
     omega arith
 
 join-on-requires : tie.Need-join-on-requires
-join-on-requires c κs = (
-  columns-ready _ _ _ _ _ (c .before .before .before .before .before .before .before .before .before .before .pre)
-      (c .before .before .before .before .alone .ensures) _ _ refl refl,
-  blank-zeros (widest + 1),
-)
+join-on-requires c κs =
+    let alone = c .before .before .before .before in
+    let start = alone .before .before .before .before .before .before in
+    (columns-ready _ _ _ _ _ (start .pre) (alone .alone .ensures) _ _ refl refl, blank-zeros (widest + 1))
 
 join-on-requires-2 : tie.Need-join-on-requires-2
 join-on-requires-2 c κs =
-    let columns = c .before .before .before .before .before .join-on in (
-      tracks-ready _ _ _ _ _ (c .before .before .before .before .before .before .before .before .before .before .before .before .before .before .before .before .pre)
-          (c .before .before .before .before .before .before .before .before .before .before .alone .ensures) _ (columns .ensures .0) _ _
-          (omega arith) refl,
-      columns .ensures .1,
+    let columns = c .before .before .before .before .before in
+    let alone = columns .before .before .before .before .before in (
+      tracks-ready _ _ _ _ _ (alone .before .before .before .before .before .before .pre) (alone .alone .ensures) _
+          (columns .join-on .ensures .0) _ _ (omega arith) refl,
+      columns .join-on .ensures .1,
     )
 
 find-fault-requires : tie.Need-find-fault-requires
 find-fault-requires c κs =
-    let start = c .before .before .before .before .before .before .before .before .before .before .before .before .before .before .before .before .before .before .before .before .before .before .before .before .before .before in
-    let alone = c .before .before .before .before .before .before .before .before .before .before .before .before .before .before .before .before .before .before .before .before .alone in
-    let columns = c .before .before .before .before .before .before .before .before .before .before .before .before .before .before .before .join-on in
-    let tracks = c .before .before .before .before .before .before .before .before .before .join-on2 in
-    let roots = c .before .before .before .before .flatten in (
-      flat-ready _ _ _ _ _ (start .pre) (alone .ensures) _ (columns .ensures .0) _ _ (tracks .ensures .0) (roots .ensures),
-      flat-unowned _ _ _ _ _ (start .pre) (alone .ensures) _ (columns .ensures .0) _ _ (tracks .ensures .0) (roots .ensures),
-      tracks .ensures .1,
+    let roots = c .before .before .before .before in
+    let tracks = roots .before .before .before .before .before in
+    let columns = tracks .before .before .before .before .before .before in
+    let alone = columns .before .before .before .before .before in
+    let start = alone .before .before .before .before .before .before in (
+      flat-ready _ _ _ _ _ (start .pre) (alone .alone .ensures) _ (columns .join-on .ensures .0) _ _
+          (tracks .join-on2 .ensures .0) (roots .flatten .ensures),
+      flat-unowned _ _ _ _ _ (start .pre) (alone .alone .ensures) _ (columns .join-on .ensures .0) _ _
+          (tracks .join-on2 .ensures .0) (roots .flatten .ensures),
+      tracks .join-on2 .ensures .1,
     )
 
 returns : tie.Need-returns
 returns c =
-    let start = c .before .before .before .before .before .before .before .before .before .before .before .before .before .before .before .before .before .before .before .before .before .before .before .before .before .before .before .before .before .before .before .before in
-    let alone = c .before .before .before .before .before .before .before .before .before .before .before .before .before .before .before .before .before .before .before .before .before .before .before .before .before .before .alone in
-    let columns = c .before .before .before .before .before .before .before .before .before .before .before .before .before .before .before .before .before .before .before .before .before .join-on in
-    let tracks = c .before .before .before .before .before .before .before .before .before .before .before .before .before .before .before .join-on2 in
-    let roots = c .before .before .before .before .before .before .before .before .before .before .flatten in
-    let said = found-finding _ _ _ _ _ (start .pre) (alone .ensures) _ (columns .ensures .0) _ _ (tracks .ensures .0) (roots .ensures)
-    (c .before .before .before .before .before .find-fault .result) (c .before .before .before .before .before .find-fault .ensures) in
+    let found = c .before .before .before .before .before .find-fault in
+    let roots = c .before .before .before .before .before .before .before .before .before .before in
+    let tracks = roots .before .before .before .before .before in
+    let columns = tracks .before .before .before .before .before .before in
+    let alone = columns .before .before .before .before .before in
+    let start = alone .before .before .before .before .before .before in
+    let said = found-finding _ _ _ _ _ (start .pre) (alone .alone .ensures) _ (columns .join-on .ensures .0) _ _
+    (tracks .join-on2 .ensures .0) (roots .flatten .ensures) (found .result) (found .ensures) in
     found-nothing _ _ (sym (c .enum-told .given .1) ∙ said)
 
 returns-2 : tie.Need-returns-2
 returns-2 c =
-    let start = c .before .before .before .before .before .before .before .before .before .before .before .before .before .before .before .before .before .before .before .before .before .before .before .before .before .before .before .before .before .before .before .before .before in
-    let alone = c .before .before .before .before .before .before .before .before .before .before .before .before .before .before .before .before .before .before .before .before .before .before .before .before .before .before .before .alone in
-    let columns = c .before .before .before .before .before .before .before .before .before .before .before .before .before .before .before .before .before .before .before .before .before .before .join-on in
-    let tracks = c .before .before .before .before .before .before .before .before .before .before .before .before .before .before .before .before .join-on2 in
-    let roots = c .before .before .before .before .before .before .before .before .before .before .before .flatten in
-    let said = found-finding _ _ _ _ _ (start .pre) (alone .ensures) _ (columns .ensures .0) _ _ (tracks .ensures .0) (roots .ensures)
-    (c .before .before .before .before .before .before .find-fault .result) (c .before .before .before .before .before .before .find-fault .ensures) in
+    let found = c .before .before .before .before .before .before .find-fault in
+    let roots = c .before .before .before .before .before .before .before .before .before .before .before in
+    let tracks = roots .before .before .before .before .before in
+    let columns = tracks .before .before .before .before .before .before in
+    let alone = columns .before .before .before .before .before in
+    let start = alone .before .before .before .before .before .before in
+    let said = found-finding _ _ _ _ _ (start .pre) (alone .alone .ensures) _ (columns .join-on .ensures .0) _ _
+    (tracks .join-on2 .ensures .0) (roots .flatten .ensures) (found .result) (found .ensures) in
     found-fault _ _ (c .before .fault .given .0 .0) (sym (c .before .fault .given .1) ∙ said)
 
 pub judge-elements-spec : {M : Type 1} → statement M

@@ -55,8 +55,8 @@ loop-less c =
     let l = c .before .before .before .before .before .before .before .before .before .loop in
     higher-up _ _ _ _ _ _ (l .inv .3) (l .inv .0) (l .inv .1)
     (c .before .before .before .before .before .before .before .before .loop-test .taken)
-    (c .before .before .before .before .before .before .parent2 .ensures) (c .before .before .before .before .hang .ensures)
-    .below
+    (c .before .before .before .before .before .before .parent2 .ensures)
+    (c .before .before .before .before .hang .ensures) .below
 
 loop-again : tie.Need-loop-again Inv-loop μ-loop
 loop-again c =
@@ -81,5 +81,5 @@ returns c =
 pub find-spec : {M : Type 1} → statement M
 find-spec =
     tie.close
-    (tie.spec Inv-loop μ-loop (λ c κs. omega arith) loop-holds parent-requires-2 hang-requires parent-requires-3 loop-less
-    loop-again same-length returns)
+    (tie.spec Inv-loop μ-loop (λ c κs. omega arith) loop-holds parent-requires-2 hang-requires parent-requires-3
+    loop-less loop-again same-length returns)

@@ -9,4 +9,6 @@ unfolding parentOf
 returns c = search needs
 
 pub parent-spec : {M : Type 1} → statement M
-parent-spec = tie.close (tie.spec (λ c. search needs) (λ c. search needs) (λ c κs. search needs) (λ c. search needs) returns)
+parent-spec =
+    tie.close
+    (tie.spec (λ c. search needs) (λ c. search needs) (λ c κs. search needs) (λ c. search needs) returns)

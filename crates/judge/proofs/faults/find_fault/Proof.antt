@@ -10,18 +10,22 @@ returns c = finds-short (c .before .before .before .first-short .ensures) (c .if
 
 first-open-requires : tie.Need-first-open-requires
 first-open-requires c κs =
-    let pre = c .before .before .before .before .before .before .before .before .before .before .before .pre in
-    (still-ready (c .before .before .before .before .before .first-short .ensures) (pre .0), pre .2)
+    let short = c .before .before .before .before .before in
+    let pre = short .before .before .before .before .before .before .pre in
+    (still-ready (short .first-short .ensures) (pre .0), pre .2)
 
 returns-2 : tie.Need-returns-2
 returns-2 c =
-    finds-open (c .before .before .before .before .before .before .before .before .before .first-short .ensures)
-    (c .before .before .before .before .before .before .if1 .left) (c .before .before .before .first-open .ensures) (c .if2 .taken)
+    let opened = c .before .before .before in
+    let short = opened .before .before .before .before .before .before in
+    finds-open (short .first-short .ensures) (opened .before .before .before .if1 .left) (opened .first-open .ensures)
+    (c .if2 .taken)
 
 first-floating-requires : tie.Need-first-floating-requires
 first-floating-requires c κs =
-    let ready = still-ready (c .before .before .before .before .before .before .before .before .before .before .first-short .ensures)
-    (c .before .before .before .before .before .before .before .before .before .before .before .before .before .before .before .before .pre .0) in
+    let short = c .before .before .before .before .before .before .before .before .before .before in
+    let start = short .before .before .before .before .before .before in
+    let ready = still-ready (short .first-short .ensures) (start .pre .0) in
     (ready .long, ready .marked)
 
 returns-3 : tie.Need-returns-3

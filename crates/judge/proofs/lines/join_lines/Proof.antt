@@ -22,33 +22,34 @@ chain-lines-requires c κs = chain-ready (c .before .before .before .before .bef
 
 loop-holds : tie.Need-loop-holds Inv-loop μ-loop
 loop-holds c =
-    let made = c .before .before .before .before .chain-lines in
-    joining-none (c .before .before .before .before .before .before .before .before .before .before .before .before .before .pre)
-    (made .kept .1 .1 .1 .1 .1 .0) (made .ensures)
+    let made = c .before .before .before .before in
+    joining-none (made .before .before .before .before .before .before .before .before .before .pre)
+    (made .chain-lines .kept .1 .1 .1 .1 .1 .0) (made .chain-lines .ensures)
 
 enter-line-requires : tie.Need-enter-line-requires Inv-loop μ-loop
 enter-line-requires c κs = line-ready (c .before .before .before .before .loop .inv) (omega arith)
 
 sweep-requires : tie.Need-sweep-requires Inv-loop μ-loop
 sweep-requires c κs =
-    let l = c .before .before .before .before .before .before .before .before .before .before .before .loop in
-    let e = c .before .before .before .before .before .before .enter-line in
-    sweep-ready (l .inv) (c .before .before .before .before .before .before .before .before .before .before .loop-test .taken)
-    (e .ensures) (e .kept .1 .1 .1 .1 .1 .1 .1 .0)
+    let entered = c .before .before .before .before .before .before in
+    let test = entered .before .before .before .before in
+    let e = entered .enter-line in
+    sweep-ready (test .before .loop .inv) (test .loop-test .taken) (e .ensures) (e .kept .1 .1 .1 .1 .1 .1 .1 .0)
 
 add-line : tie.Need-add-line Inv-loop μ-loop
-add-line c = omega (arith, c .before .before .before .before .before .before .before .before .before .before .before .before .before .before .before .before .loop .inv .few, c .before .before .before .before .before .before .before .before .before .before .before .before .before .before .before .before .loop .inv .real)
-
-loop-less : tie.Need-loop-less Inv-loop μ-loop
-loop-less c = omega arith
+add-line c =
+    let turn = c .before .before .before .before .before .before .before .before in
+    let inv = turn .before .before .before .before .before .before .before .before .loop .inv in
+    omega (arith, inv .few, inv .real)
 
 loop-again : tie.Need-loop-again Inv-loop μ-loop
 loop-again c =
-    let l = c .before .before .before .before .before .before .before .before .before .before .before .before .before .before .before .before .loop in
-    let e = c .before .before .before .before .before .before .before .before .before .before .before .enter-line in
-    let w = c .before .before .before .before .sweep in
-    joining-next (l .inv) (c .before .before .before .before .before .before .before .before .before .before .before .before .before .before .before .loop-test .taken)
-    (e .ensures) (e .kept .1 .1 .1 .1 .1 .1 .1 .0) (w .kept .0) (w .ensures)
+    let swept = c .before .before .before .before in
+    let entered = swept .before .before .before .before .before .before .before in
+    let test = entered .before .before .before .before in
+    let e = entered .enter-line in
+    joining-next (test .before .loop .inv) (test .loop-test .taken) (e .ensures) (e .kept .1 .1 .1 .1 .1 .1 .1 .0)
+    (swept .sweep .kept .0) (swept .sweep .ensures)
 
 same-length : tie.Need-same-length Inv-loop μ-loop
 same-length c = c .before .before .before .before .before .before .chain-lines .kept .1 .1 .1 .1 .1 .0
@@ -63,15 +64,15 @@ same-length-3 c =
 
 returns : tie.Need-returns Inv-loop μ-loop
 returns c =
-    let made = c .before .before .before .before .before .before .chain-lines in (
-      joining-whole
-          (c .before .before .before .before .before .before .before .before .before .before .before .before .before .before .before .pre)
-          (made .kept .1 .1 .1 .1 .1 .0) (made .ensures) (c .before .loop .inv) (omega arith),
-      c .before .loop .inv .blank,
+    let made = c .before .before .before .before .before .before in
+    let inv = c .before .loop .inv in (
+      joining-whole (made .before .before .before .before .before .before .before .before .before .pre)
+          (made .chain-lines .kept .1 .1 .1 .1 .1 .0) (made .chain-lines .ensures) inv (omega arith),
+      inv .blank,
     )
 
 pub join-lines-spec : {M : Type 1} → statement M
 join-lines-spec =
     tie.close
-    (tie.spec Inv-loop μ-loop chain-lines-requires loop-holds enter-line-requires sweep-requires add-line loop-less
-    loop-again same-length same-length-2 same-length-3 returns)
+    (tie.spec Inv-loop μ-loop chain-lines-requires loop-holds enter-line-requires sweep-requires add-line
+    (λ c. omega arith) loop-again same-length same-length-2 same-length-3 returns)

@@ -1,5 +1,5 @@
--- `join_on` meets its contract: the fronts of two blank tables have a head for each line and a place for each start, and
--- the places are left free.
+-- `join_on` meets its contract: the fronts of two blank tables have a head for each line and a place for each start,
+-- and the places are left free.
 use borrow.Author.Needs.{needs}
 use Prim.Native.Nat.{_+_}
 use native.Mathlib.Omega.{arith}
@@ -35,8 +35,9 @@ join-lines-requires c κs =
 
 returns : tie.Need-returns
 returns c =
-    let start = c .before .before .before .before .before .before .before .before .before .before .before .before .before .before in
-    let joined = c .before .before .before .before .before .join-lines in (
+    let called = c .before .before .before .before .before in
+    let start = called .before .before .before .before .before .before .before .before .before in
+    let joined = called .join-lines in (
       joined .ensures .0,
       blank-again (joined .last .1 .1 .1 .1 .1 .1 .0) (start .args .places) (start .pre .1)
           (joined .kept .1 .1 .1 .1 .1 .1 .0) (joined .ensures .1),
