@@ -31,13 +31,16 @@ pub record Passes (start furthest : ℕ) (starts s : List ℕ) (r : ℕ) (starts
   pub free : getD starts start 0 ≡ 0 → (r ≡ furthest) × Kept s s′
   pub taken : (getD starts start 0 ≡ 0 → ⊥) → Met furthest start (getD starts start 0) s r s′
 
+-- labels of elements that are the same where two ranges overlap
+abbrev pub OneLabel : (ℕ → ℕ) → List ℕ → Type 0
+OneLabel label starts =
+    (a b : ℕ) → a < b → b < length starts → b < highHalf (getD starts a 0) → 0 < getD starts b 0
+    → label (lowHalf (getD starts a 0)) ≡ label (lowHalf (getD starts b 0))
+
 -- the ranges that overlap are joined, and no others, and the places are free
 pub record Swept (starts s starts′ s′ : List ℕ) : Type 0 where
   pub grown : Grown s s′
   pub links : (a b : ℕ) → a ≤ b → b < length starts → b < highHalf (getD starts a 0) → 0 < getD starts b 0
       → Same s′ (lowHalf (getD starts a 0)) (lowHalf (getD starts b 0))
-  pub only : (label : ℕ → ℕ) → Respects label s
-      → ((a b : ℕ) → a < b → b < length starts → b < highHalf (getD starts a 0) → 0 < getD starts b 0
-      → label (lowHalf (getD starts a 0)) ≡ label (lowHalf (getD starts b 0)))
-      → Respects label s′
+  pub only : (label : ℕ → ℕ) → Respects label s → OneLabel label starts → Respects label s′
   pub clear : (a : ℕ) → getD starts′ a 0 ≡ 0

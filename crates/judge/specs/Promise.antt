@@ -14,7 +14,7 @@ use Rattle.channel.specs.Channel.{Channel, widest, width}
 use Rattle.channel.specs.Answers.{Escapes}
 use Rattle.wiring.specs.Pins.{Pin, netOf, IsPin, pinAt}
 use Rattle.wiring.specs.Layouts.{Good, AllOnGrid, pin, copper, Joined}
-use Rattle.boardfile.specs.Open.{openRefusal, fileWidth, fileLayout}
+use Rattle.boardfile.specs.Open.{openRefusal, fileWidth, fileCount, fileLayout}
 use Rattle.judge.specs.declared.Fault.the-variants.{Short, Open, Floating}
 use Rattle.judge.specs.declared.JudgeAnswer.{JudgeAnswer}
 use Rattle.judge.specs.declared.JudgeAnswer.the-variants.{Faulty, Refused}
@@ -77,6 +77,7 @@ pub record Passable (ch : Channel) (board : List ℕ) (scratch : ℕ) : Type 0 w
 -- board. Refusal 1 for scratch follows." A board file counts at most 4,095 pieces; two rows have at most 1,024 pins
 pub record ScratchPromise : Type 0 where
   pub one-each : scratchTray ≡ widest + widest + 4095
+  pub enough : (ch : Channel) (board : List ℕ) → Escapes ch → width ch + width ch + fileCount board ≤ scratchTray
   pub short : (ch : Channel) (board : List ℕ) (scratch : ℕ) → scratch < scratchTray
       → judgeAnswer ch board scratch ≡ Refused (ShortTray 5119)
   pub same : (ch : Channel) (board : List ℕ) (scratch : ℕ) → scratchTray ≤ scratch
