@@ -112,6 +112,10 @@ static int repeat_one(char **words)
         fprintf(stderr, "measure: no such side, operation or shape\n");
         return 2;
     }
+    if (side >= (int)sides_of((enum operation)operation)) {
+        fprintf(stderr, "measure: that side has no such operation\n");
+        return 2;
+    }
     make_input((enum shape)shape, 512, &input);
     lend(&lent);
     for (unsigned long i = strtoul(words[3], NULL, 10); i > 0; i--)

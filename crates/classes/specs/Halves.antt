@@ -27,7 +27,11 @@ pub high-number : (low high : ℕ) → low < half → highHalf (numberOf low hig
 unfolding highHalf numberOf
 high-number low high h = omega arith
 
--- a number with a half that is not 0 is not 0
+-- both halves of 0 are 0
+pub low-none : lowHalf 0 ≡ 0
+unfolding lowHalf
+low-none = omega arith
+
 pub high-none : highHalf 0 ≡ 0
 unfolding highHalf
 high-none = omega arith

@@ -10,15 +10,11 @@ use mathlib.Core.Logic.{_⊎_, inl, inr, ⊎-elim}
 use lib.ListN.{length, getD, set, length-set, List·getD-eq-default}
 use lib.Seq.{getD-set-same, getD-set-other}
 use Rattle.lists.specs.Tests.{equal?}
-use Rattle.classes.specs.Halves.{lowHalf, highHalf, high-times, high-grows}
+use Rattle.classes.specs.Halves.{lowHalf, highHalf, low-none, high-times, high-grows}
 use Rattle.classes.specs.Forest.{Same, Grown, Respects}
 use Rattle.classes.specs.Sweep.{Sweepable, Passes, Swept, OneLabel}
 use Rattle.classes.specs.GrowLaws.{grown-itself, grown-chained, kept-grown, joins-grown, joins-same}
 use Rattle.classes.specs.GrowLaws.{kept-respects, joins-respects}
-
-low-none : lowHalf 0 ≡ 0
-unfolding lowHalf
-low-none = omega arith
 
 -- what the sweep has done before place i, with the number of what reaches furthest
 pub record SweptTo (T s₀ : List ℕ) (i furthest : ℕ) (T′ s : List ℕ) : Type 0 where

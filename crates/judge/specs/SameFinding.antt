@@ -2,16 +2,16 @@
 -- same finding.
 use Prim.Native.Nat.{ℕ, zero, suc, _+_, _≤_, _<_}
 use native.Mathlib.Omega.{arith}
-use mathlib.Core.Path.{_≡_, refl, sym, ap, subst}
-use mathlib.Core.List.{List, [], _∷_, List·Memᴰ, List·Memᴰ·head, List·Memᴰ·tail}
+use mathlib.Core.Path.{_≡_, sym, ap, subst}
+use mathlib.Core.List.{List, List·Memᴰ}
 use mathlib.Core.Bool.{Bool, _&&_, not}
 use mathlib.Core.Option.{Option, none}
 use lib.ListN.{length, getD}
 use lib.Dec.{ltb, eqb, eqb→eq}
-use Rattle.lists.specs.Lists.{anyOf, at, upTo}
+use Rattle.lists.specs.Lists.{at, upTo}
 use Rattle.lists.specs.Tests.{same-test, eq→T}
 use Rattle.lists.specs.Members.{upTo-member}
-use Rattle.lists.specs.Tallies.{keep-same}
+use Rattle.lists.specs.Tallies.{keep-same, any-same}
 use Rattle.grid.specs.Pieces.{Layout}
 use Rattle.channel.specs.Channel.{Channel, width, positions}
 use Rattle.channel.specs.Answers.{Escapes}
@@ -30,14 +30,6 @@ pub record SameClasses (n : ℕ) (ms ms′ : List ℕ) : Type 0 where
 unfoldable pub foundBy : Channel → Layout → List ℕ → Option Fault
 foundBy ch l ms =
     faultAtFirst Short (shorts ch ms) (faultAtFirst Open (opens ch ms) (faultAtFirst Floating (floating ch l ms) none))
-
--- two tests that agree on the members pass of some member together
-any-same : {A : Type 0} (f g : A → Bool) (xs : List A) → ((x : A) → List·Memᴰ x xs → f x ≡ g x)
-    → anyOf f xs ≡ anyOf g xs
-unfolding anyOf
-any-same f g [] h = refl
-any-same f g (x ∷ xs) h =
-    let r = any-same f g xs (λ y m. h y (List·Memᴰ·tail m)) in let e = h x (List·Memᴰ·head refl) in rw (e, r)
 
 module _ (ch : Channel) (l : Layout) (esc : Escapes ch) (ms ms′ : List ℕ)
     (same : SameClasses (width ch + width ch + length (l .pieces)) ms ms′) where

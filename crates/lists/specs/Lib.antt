@@ -22,3 +22,4 @@ pub mod Collects
 pub mod Runs
 pub mod Maps
 pub mod Tables
+pub mod Fronts

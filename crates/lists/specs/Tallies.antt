@@ -8,7 +8,7 @@ use mathlib.Core.List.{List, [], _∷_, _++_, List·Memᴰ, List·Memᴰ·head, 
 use mathlib.Core.Bool.{Bool, true, false, cond}
 use lib.ListN.{length, getD, set, length-append}
 use lib.Dec.{T}
-use Rattle.lists.specs.Lists.{keep, upTo, headOr, Lowest}
+use Rattle.lists.specs.Lists.{keep, anyOf, upTo, headOr, Lowest}
 use Rattle.lists.specs.Firsts.{Passing, NonePasses, FirstKept, no-one, begins, first-kept}
 
 -- the first of 1 to n that passes, 0 if none does
@@ -79,6 +79,13 @@ module _ {A : Type 0} where
   keep-same f g [] h = refl
   keep-same f g (x ∷ xs) h =
       let r = keep-same f g xs (λ y m. h y (List·Memᴰ·tail m)) in let e = h x (List·Memᴰ·head refl) in rw (e, r)
+
+  -- and pass of some member together
+  pub any-same : (f g : A → Bool) (xs : List A) → ((x : A) → List·Memᴰ x xs → f x ≡ g x) → anyOf f xs ≡ anyOf g xs
+  unfolding anyOf
+  any-same f g [] h = refl
+  any-same f g (x ∷ xs) h =
+      let r = any-same f g xs (λ y m. h y (List·Memᴰ·tail m)) in let e = h x (List·Memᴰ·head refl) in rw (e, r)
 
   pub keep-append : (f : A → Bool) (xs ys : List A) → keep f (xs ++ ys) ≡ keep f xs ++ keep f ys
   unfolding keep

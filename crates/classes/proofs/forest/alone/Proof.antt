@@ -3,7 +3,7 @@ use Prim.Native.Nat.{_-_, _≤_}
 use native.Mathlib.Omega.{arith}
 use mathlib.Core.Path.{refl}
 use lib.ListN.{length}
-use Rattle.classes.specs.FlatLaws.{FrontIs, front-none, front-next, front-numbers}
+use Rattle.lists.specs.Fronts.{FrontIs, front-none, front-next, front-numbers}
 use Rattle.classes.proofs.forest.alone.Statement.{statement}
 use Rattle.classes.proofs.forest.alone.Tie as tie
 

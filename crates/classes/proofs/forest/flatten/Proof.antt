@@ -5,7 +5,8 @@ use native.Mathlib.Omega.{arith}
 use mathlib.Core.Path.{refl, _∙_}
 use lib.ListN.{length}
 use Rattle.classes.specs.Forest.{rootOf}
-use Rattle.classes.specs.FlatLaws.{FrontIs, front-none, front-next, front-whole, flat-up, flat-root}
+use Rattle.lists.specs.Fronts.{FrontIs, front-none, front-next, front-whole}
+use Rattle.classes.specs.FlatLaws.{flat-up, flat-root}
 use Rattle.classes.proofs.forest.flatten.Statement.{statement}
 use Rattle.classes.proofs.forest.flatten.Tie as tie
 
