@@ -7,8 +7,8 @@
 #include "text.h"
 
 const char *const shape_names[SHAPES] = {
-    "example-B", "dense", "padded", "chain", "fullest", "ring-255", "ring-511", "file-4095", "file-4095-mixed",
-    "one-column", "one-track", "one-point",
+    "example-B", "dense", "padded", "chain", "fullest", "ring-255", "ring-511", "ring-pairs", "ring-layers",
+    "file-4095", "file-4095-mixed", "one-column", "one-track", "one-point",
 };
 
 /* Nets one inside the other, no two in a column: the density is half the width. */
@@ -44,6 +44,27 @@ static void make_ring(struct input *in, uint32_t nets)
     }
 }
 
+/* As many rings of two nets as there are columns and numbers for, and no other step. */
+static void make_pairs(struct input *in, uint32_t width)
+{
+    for (uint32_t i = 0; i + 1 < width && i + 2 < 512; i += 2) {
+        in->top[i] = in->bot[i + 1] = i + 1;
+        in->top[i + 1] = in->bot[i] = i + 2;
+    }
+}
+
+/* Layers of two nets, each above both of the next layer, and those of the last above those of the first: of L layers
+ * 2 to the power L rings, all of L nets. */
+static void make_layers(struct input *in, uint32_t width)
+{
+    uint32_t layers = width / 4;
+    for (uint32_t i = 0; i < 4 * layers; i++) {
+        uint32_t layer = i / 4, next = (layer + 1) % layers;
+        in->top[i] = 2 * layer + 1 + i % 4 / 2;
+        in->bot[i] = 2 * next + 1 + i % 2;
+    }
+}
+
 static void make_rows(enum shape shape, size_t width, struct input *in)
 {
     static const uint32_t top[] = {0, 1, 6, 1, 2, 3, 5}, bot[] = {6, 3, 5, 4, 0, 2, 4};
@@ -67,6 +88,12 @@ static void make_rows(enum shape shape, size_t width, struct input *in)
         break;
     case RING_511:
         make_ring(in, 511);
+        break;
+    case RING_PAIRS:
+        make_pairs(in, (uint32_t)width);
+        break;
+    case RING_LAYERS:
+        make_layers(in, (uint32_t)width);
         break;
     default:
         make_fullest(in, (uint32_t)width);
@@ -138,6 +165,8 @@ bool measured_on(enum operation operation, enum shape shape)
 {
     if (shape == PADDED) /* the other operations take rows */
         return operation == READ;
+    if (shape == RING_PAIRS || shape == RING_LAYERS) /* many rings of one length */
+        return operation == FEWEST_RING;
     return operation == JUDGE ? shape < RING_255 || shape >= FULL_FILE : shape < FULL_FILE;
 }
 

@@ -15,6 +15,8 @@ enum shape {
     FULLEST,
     RING_255,
     RING_511,
+    RING_PAIRS,
+    RING_LAYERS,
     FULL_FILE,
     MIXED_FILE,
     ONE_COLUMN,

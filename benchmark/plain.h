@@ -38,6 +38,9 @@ uint64_t plain_looks(const uint32_t *top, size_t top_length, const uint32_t *bot
 
 uint64_t plain_ceiling(const uint32_t *top, size_t top_length, const uint32_t *bot, size_t bot_length);
 
+uint64_t plain_fewest_ring(const uint32_t *top, size_t top_length, const uint32_t *bot, size_t bot_length,
+                           uint32_t *ring, size_t ring_length);
+
 uint64_t plain_own_blank(const uint32_t *table, size_t table_length, uint32_t tracks);
 
 /* What the parts of the plain version share. */

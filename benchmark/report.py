@@ -15,7 +15,7 @@ import tempfile
 from pathlib import Path
 
 RATIO_GOAL = 1.10
-TIME_GOALS = {"bounds": 40e3, "route": 300e3, "judge": 1e6}  # nanoseconds, of any input
+TIME_GOALS = {"bounds": 40e3, "route": 300e3, "judge": 1e6, "fewest-ring": 5e6}  # nanoseconds, of any input
 PAIRWISE_GOAL = 25  # how many times longer the pairwise judge takes on each board of 4,095 pieces, at least
 GROWTH_GOALS = {"bounds": 1.2}  # the power of the width, from 64 to 512 columns
 WIDTHS = (64, 128, 256, 512)
@@ -27,6 +27,8 @@ SHAPES = {  # the name and what it is
     "fullest": ("fullest channel", "the chain with a pin in every place: no router's board has more pieces"),
     "ring-255": ("ring of 255", "255 nets, each above the next and the last above the first"),
     "ring-511": ("ring of 511", "the same of 511 nets, the largest ring"),
+    "ring-pairs": ("255 rings of 2", "255 rings of two nets"),
+    "ring-layers": ("rings of 128", "128 layers of two nets, each above both of the next: 2 to the power 128 rings"),
     "file-4095": ("4,095 pieces", "the fullest channel's pieces, repeated up to what a file holds"),
     "file-4095-mixed": ("4,095 pieces, mixed", "the same in random order"),
     "one-column": ("4,095 in a column", "branches of one column, their ends at random"),

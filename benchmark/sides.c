@@ -6,8 +6,8 @@
 #include "channel.h"
 #include "plain.h"
 
-const char *const operation_names[OPERATIONS] = {"read", "bounds", "route", "judge", "looks", "ceiling",
-                                                   "own-blank"};
+const char *const operation_names[OPERATIONS] = {"read", "bounds", "route", "judge", "fewest-ring", "looks",
+                                                   "ceiling", "own-blank"};
 const char *const side_names[SIDES] = {"rattle", "c", "pairwise"};
 
 static const struct {
@@ -15,12 +15,15 @@ static const struct {
     uint64_t (*bounds)(const uint32_t *, size_t, const uint32_t *, size_t);
     uint64_t (*route)(const uint32_t *, size_t, const uint32_t *, size_t, uint32_t *, size_t, uint8_t *, size_t);
     uint64_t (*judge)(const uint32_t *, size_t, const uint32_t *, size_t, const uint8_t *, size_t, uint32_t *, size_t);
+    uint64_t (*fewest_ring)(const uint32_t *, size_t, const uint32_t *, size_t, uint32_t *, size_t);
     uint64_t (*looks)(const uint32_t *, size_t, const uint32_t *, size_t);
     uint64_t (*ceiling)(const uint32_t *, size_t, const uint32_t *, size_t);
     uint64_t (*own_blank)(const uint32_t *, size_t, uint32_t);
 } entries[SIDES] = {
-    {cabjirt_read, cabjirt_bounds, cabjirt_route, cabjirt_judge, cabjirt_looks, cabjirt_ceiling, cabjirt_own_blank},
-    {plain_read, plain_bounds, plain_route, plain_judge, plain_looks, plain_ceiling, plain_own_blank},
+    {cabjirt_read, cabjirt_bounds, cabjirt_route, cabjirt_judge, cabjirt_fewest_ring, cabjirt_looks,
+     cabjirt_ceiling, cabjirt_own_blank},
+    {plain_read, plain_bounds, plain_route, plain_judge, plain_fewest_ring, plain_looks, plain_ceiling,
+     plain_own_blank},
     {.judge = plain_pairwise},
 };
 
@@ -51,6 +54,9 @@ uint64_t call(enum side side, enum operation operation, const struct input *in, 
     case JUDGE:
         return entries[side].judge(in->top, in->top_length, in->bot, in->bot_length, in->file, in->file_length,
                                    lent->scratch, lent->scratch_length);
+    case FEWEST_RING:
+        return entries[side].fewest_ring(in->top, in->top_length, in->bot, in->bot_length, lent->ring,
+                                         lent->ring_length);
     case LOOKS:
         return entries[side].looks(in->top, in->top_length, in->bot, in->bot_length);
     case CEILING:

@@ -12,7 +12,7 @@ enum { TEXT_LIMIT = 65536, FILE_LIMIT = 4 + 4 * 4095, TABLE_LIMIT = 72 };
 
 /* Looks, ceiling and own blank are compared and not measured: the former are parts of routing, and a choice of a blank
  * looks at 64 numbers at most. */
-enum operation { READ, BOUNDS, ROUTE, JUDGE, LOOKS, CEILING, OWN_BLANK, OPERATIONS, MEASURED = LOOKS };
+enum operation { READ, BOUNDS, ROUTE, JUDGE, FEWEST_RING, LOOKS, CEILING, OWN_BLANK, OPERATIONS, MEASURED = LOOKS };
 
 /* What an operation is given: a pin list as text, the same as rows, a board file, a table of blanks with the tracks
  * wanted. Rows over 512 and tables over 64 are there to be refused. */

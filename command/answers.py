@@ -7,7 +7,9 @@ from command import refusals
 NUMBER = rb"(0|[1-9][0-9]{0,9})"
 GOOD = re.compile(rb"GOOD " + NUMBER + rb"\n")
 BLANK = re.compile(rb"BLANK " + NUMBER + rb"\n")
-REFUSED = re.compile(rb"REFUSED " + NUMBER + rb" " + NUMBER + rb"\n(?:RING " + NUMBER + rb" " + NUMBER + rb"\n)*")
+RING = rb"RING " + NUMBER + rb" " + NUMBER + rb"\n"
+REFUSED = re.compile(rb"REFUSED " + NUMBER + rb" " + NUMBER + rb"\n(?:" + RING + rb")*")
+FEWEST = re.compile(rb"NONE\n|(?:" + RING + rb")+")
 NET = rb"NET " + rb" ".join([NUMBER] * 4) + rb"\n"
 LISTING = re.compile(
     rb"BOARD " + rb" ".join([NUMBER] * 3) + rb"\nBOUND " + NUMBER + rb" " + NUMBER + rb"\n(?:" + NET + rb")*"
@@ -15,6 +17,7 @@ LISTING = re.compile(
 
 Facts = namedtuple("Facts", "width tracks blank density chain pieces")
 Blank = namedtuple("Blank", "tracks")
+Ring = namedtuple("Ring", "pairs")  # of net and column; none where there is no ring
 # word is GOOD or REFUSED; place is the tracks of a good board; ring has pairs of net and column
 Verdict = namedtuple("Verdict", "word number place ring")
 
@@ -23,13 +26,18 @@ def numbers_of(match, *groups):
     return [int(match.group(at)) for at in groups]
 
 
+def pairs_of(lines):
+    """The pairs of RING lines."""
+    return tuple(tuple(map(int, line.split()[1:])) for line in lines)
+
+
 def refusal_of(output):
     """The refusal or fault that an output is, or None. Only refusal 7 has a ring, with as many pairs as it says."""
     match = REFUSED.fullmatch(output)
     if match is None:
         return None
     number, place = numbers_of(match, 1, 2)
-    ring = tuple(tuple(map(int, line.split()[1:])) for line in output.splitlines()[1:])
+    ring = pairs_of(output.splitlines()[1:])
     if number not in refusals.NUMBERS or len(ring) != (place if number == 7 else 0):
         return None
     return Verdict("REFUSED", number, place, ring)
@@ -45,6 +53,13 @@ def blank_of(output):
     """The blank that an output names; None for any other output."""
     match = BLANK.fullmatch(output)
     return Blank(int(match.group(1))) if match else None
+
+
+def ring_of(output):
+    """The ring that an output is, or that there is none; None for any other output."""
+    if FEWEST.fullmatch(output) is None:
+        return None
+    return Ring(() if output == b"NONE\n" else pairs_of(output.splitlines()))
 
 
 def facts_of(output):

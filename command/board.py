@@ -13,7 +13,7 @@ OPERANDS = (1, 1)
 
 def run(pins_name):
     pins = inputs.read(pins_name)
-    programs.ready(*programs.STEPS)
+    programs.ready(*programs.FOR_BOARDS)
     output, answer = programs.listing(pins)
     if not isinstance(answer, answers.Verdict):
         output, verdict = programs.judged_board(pins)

@@ -66,13 +66,16 @@ def high_net(place, pins, _board, _verdict):
 
 
 def tangled(_place, _pins, _board, verdict):
-    """The ring, each net above the next; a long one is cut short."""
-    ring = verdict.ring
+    return "the ring: " + ring_words(verdict.ring)
+
+
+def ring_words(ring):
+    """The pairs of a ring, each net above the next; a long one is cut short."""
     steps = [f"net {net} above net {lower} in column {column}"
              for (net, column), (lower, _) in zip(ring, ring[1:] + ring[:1])]
     if len(steps) > PAIRS_SPELT:
         steps[PAIRS_SPELT:] = [f"and so on, {len(ring)} nets in all"]
-    return "the ring: " + ", ".join(steps)
+    return ", ".join(steps)
 
 
 def torn(place, _pins, board, _verdict):

@@ -24,7 +24,7 @@ def run(pins_name, board_name, laminate=None):
     inputs.refuse_standard_twice(pins_name, laminate, "TABLE")
     place = Place(board_name, pins_name, laminate)
     pins, text = inputs.read(pins_name), None if laminate is None else inputs.read(laminate)
-    programs.ready(*programs.STEPS)
+    programs.ready(*programs.FOR_BOARDS)
     output, answer = programs.listing(pins)
     if isinstance(answer, answers.Verdict):
         write_output(output)

@@ -1,14 +1,15 @@
 """channel picture PINS [BOARD] > PICTURE
 
 Writes an SVG picture on standard output: of the router's board of a pin list, or of a board file with what the judge
-says of it. A refused list or board is drawn with the refused place marked, a tangled list with its ring, and the
-status is 1. Parked pins are hollow. One of PINS and BOARD may be - for standard input.
+says of it. A refused list or board is drawn with the refused place marked, a tangled list with its ring and the ring
+that has the fewest nets, and the status is 1. Parked pins are hollow. One of PINS and BOARD may be - for standard
+input.
 """
-from command import answers, inputs, programs, told
+from command import answers, inputs, programs, rings, told
 from command.explain import meaning_of
 from command.standard import write_output
 
-SUMMARY = "draw a board, a fault or the ring of a tangled list"
+SUMMARY = "draw a board, a fault or the rings of a tangled list"
 OPERANDS = (1, 2)
 GOOD_WORDS = ("judged good: two pins are joined exactly if they carry one net number, and every piece is joined to "
               "some pin")
@@ -28,7 +29,8 @@ def run(pins_name, board_name=None):
     else:
         board, verdict = programs.judged_board(pins)
         programs.refuse_disagreement(answer, board, verdict)
+    fewest = rings.found_beside(pins, verdict) if verdict.number == told.TANGLED else None
     from picture.draw import draw  # pylint: disable=import-outside-toplevel  (the other commands need no pictures)
     words = GOOD_WORDS if verdict.word == "GOOD" else meaning_of(verdict)
-    write_output(draw(pins, None if refused else answer, board, verdict, words).encode())
+    write_output(draw(pins, None if refused else answer, board, verdict, words, fewest).encode())
     return told.status(verdict, pins, board, pins_name, board_name or "the board file")

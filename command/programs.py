@@ -1,4 +1,4 @@
-"""Running the three proved programs. What is no whole answer with status 0 is a failure of that step."""
+"""Running the four proved programs. What is no whole answer with status 0 is a failure of that step."""
 import signal
 import subprocess
 import tempfile
@@ -7,8 +7,9 @@ from pathlib import Path
 from command import answers, boardfile, built, places
 from command.failure import Failure, reason
 
-LISTING, WRITER, JUDGE = "listing", "board_writer", "board_judge"
-STEPS = {LISTING: "the listing program", WRITER: "the board writer", JUDGE: "the judge"}
+LISTING, WRITER, JUDGE, FINDER = "listing", "board_writer", "board_judge", "ring_finder"
+STEPS = {LISTING: "the listing program", WRITER: "the board writer", JUDGE: "the judge", FINDER: "the ring finder"}
+FOR_BOARDS = (LISTING, WRITER, JUDGE)
 
 
 def ended(status):
@@ -89,7 +90,7 @@ def judged_board(pins):
 
 
 def refuse_disagreement(facts, board_bytes, verdict):
-    """The three programs are to speak of one board: width, tracks and pieces."""
+    """The listing program, the board writer and the judge are to speak of one board: width, tracks and pieces."""
     width, tracks, pieces, _ = boardfile.header_of(board_bytes)
     if (facts.width, facts.tracks, facts.pieces) != (width, tracks, pieces) or verdict.place != tracks:
         raise Failure("the listing, the board file and the judge do not speak of one board; no board is made")

@@ -88,6 +88,15 @@ static void *capping(void *unused)
     return unused;
 }
 
+/* In the chain closed to a ring: its last net is put above the first while the ring is looked for. */
+static void *finding(void *unused)
+{
+    bot[NETS - 1] = 1;
+    answer = cabjirt_fewest_ring(top, CABJIRT_ROW, bot, CABJIRT_ROW, ring, CABJIRT_RING);
+    bot[NETS - 1] = 0;
+    return unused;
+}
+
 /* How many bytes of its stack a thread changes. */
 static size_t depth(void *(*entry)(void *))
 {
@@ -119,7 +128,8 @@ int main(void)
                    {"cabjirt_blank", choosing},
                    {"cabjirt_own_blank", choosing_own},
                    {"cabjirt_looks", looking},
-                   {"cabjirt_ceiling", capping}};
+                   {"cabjirt_ceiling", capping},
+                   {"cabjirt_fewest_ring", finding}};
     make_text();
     make_table();
     size_t without = depth(nothing);

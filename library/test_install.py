@@ -18,6 +18,8 @@ A = b"TOP 0 1 2 3\nBOT 1 2 0 3\n"
 A_TURNED = b"TOP 1 2 0 3\nBOT 0 1 2 3\n"
 PADDED = b"TOP   0   1   2   3\r\nBOT   1   2   0   3\r\n"
 L = b"TOP 1 0\nBOT 0 0\n"
+LONGER = b"TOP 1 2 3 4 2\nBOT 2 3 4 1 1\n"
+LONGER_TOLD = b"2 nets: net 1 above net 2 in column 1, net 2 above net 1 in column 5"
 L_LISTED = b"BOARD 2 0 8\nBOUND 0 0\nEND 0\n"
 USED = b"width 4, tracks 2, pieces 11, blank 8\n"
 STRICT = ("-O2", "-Wall", "-Wextra", "-Wpedantic", "-Werror")
@@ -111,10 +113,29 @@ class Installed(unittest.TestCase):
         missing = f"channel: {program} is missing: install the command again\n".encode()
         self.assertEqual((done.returncode, done.stderr), (2, missing))
 
+    def test_rings(self):
+        """The ring finder is installed beside the other programs; where it is gone the command says so."""
+        command = self.prefix / "bin" / "channel"
+        done = run(command, "ring", "-", input=LONGER)
+        self.assertEqual((done.returncode, done.stdout), (0, b"RING 1 1\nRING 2 5\n"))
+        self.assertEqual(done.stderr, b"channel: standard input: the fewest wires to move: " + LONGER_TOLD + b"\n")
+        self.assertEqual(run(command, "ring", "-", input=A).stdout, b"NONE\n")
+        self.assertEqual(run(command, "ring", "-", input=b"").stdout, b"REFUSED 2 0\n")
+        done = run(command, "picture", "-", input=LONGER)
+        self.assertEqual((done.returncode, b'class="cap"' in done.stdout), (1, True))
+        program = self.prefix / "lib" / "cabjirt" / "bin" / "ring_finder"
+        kept = program.rename(self.room / "ring_finder")
+        self.addCleanup(kept.rename, program)
+        missing = f"channel: {program} is missing: install the command again\n".encode()
+        done = run(command, "ring", "-", input=LONGER)
+        self.assertEqual((done.returncode, done.stdout, done.stderr), (2, b"", missing))
+
     def test_the_order_screen(self):
         done = run(self.prefix / "bin" / "channel", "order", input=L + b"show\n")
         self.assertEqual(done.returncode, 2 if OPTIONS else 0, done.stderr.decode())
         self.assertTrue(OPTIONS or b"\n1 pin parked: net 1\n" in done.stdout)
+        done = run(self.prefix / "bin" / "channel", "order", input=LONGER + b"show\n")
+        self.assertTrue(OPTIONS or b"\nthe fewest wires to move: 2 nets\nnet 1 above net 2 in " in done.stdout)
 
     def test_a_c_program(self):
         self.assertEqual(self.built("c", "cc", "-std=c11", *STRICT, ROOT / "library" / "use.c"), USED)
@@ -141,7 +162,7 @@ class Installed(unittest.TestCase):
         told = dict(re.findall(r"^\| `(cabjirt_\w+)` \| (\d+) KiB \|", (ROOT / "docs" / "MANUAL.md").read_text(), re.M))
         for _, name, used in map(str.split, measured.splitlines()):
             self.assertLessEqual(int(used), 1024 * int(told[name]), name)
-        self.assertEqual(len(told), 8)
+        self.assertEqual(len(told), 9)
 
     def test_the_man_page(self):
         page = self.prefix / "share" / "man" / "man1" / "channel.1"

@@ -11,13 +11,13 @@ enum { THREADS = 4, ROUNDS = 300 };
 struct work {
     uint32_t top[CABJIRT_ROW], bot[CABJIRT_ROW], ring[CABJIRT_RING], scratch[CABJIRT_SCRATCH];
     uint8_t board[CABJIRT_BOARD];
-    uint64_t answers[8];
+    uint64_t answers[9];
 };
 
 static struct work due[THREADS], works[THREADS];
 static int same[THREADS];
 
-/* A chain whose length and places differ with the thread. */
+/* A chain whose length and places differ with the thread; at the end its last net is put above the first. */
 static void work_through(struct work *work, size_t which)
 {
     char text[4096];
@@ -39,6 +39,8 @@ static void work_through(struct work *work, size_t which)
     work->answers[5] = cabjirt_looks(work->top, width, work->bot, width);
     work->answers[6] = cabjirt_ceiling(work->top, width, work->bot, width);
     work->answers[7] = cabjirt_own_blank((const uint32_t[]){16, 24, 36}, 3, (uint32_t)width);
+    work->bot[width - 2] = (uint32_t)which + 1;
+    work->answers[8] = cabjirt_fewest_ring(work->top, width, work->bot, width, work->ring, CABJIRT_RING);
 }
 
 static void *repeat(void *number)
@@ -65,6 +67,7 @@ int main(void)
             return 2;
     for (size_t i = 0; i < THREADS; i++)
         all += same[i];
-    printf("%d rounds the same, %u tracks judged\n", all, cabjirt_value(due[0].answers[3]));
+    printf("%d rounds the same, %u tracks judged, a ring of %u nets\n", all, cabjirt_value(due[0].answers[3]),
+           cabjirt_value(due[0].answers[8]));
     return all == THREADS * ROUNDS ? 0 : 1;
 }

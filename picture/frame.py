@@ -132,14 +132,25 @@ class Frame:
             self.sheet.turned(x + 0.36 * self.label_size, away, net, class_=style,
                               text_anchor="end" if side > 0 else "start")
 
+    def _labels_end(self):
+        """Where the labels of TOP begin and those of BOT end."""
+        return (self.y(self.tracks + 1) - self.pad / 2 - self.label_room, self.y(0) + self.pad / 2 + self.label_room)
+
     def draw_bands(self, columns):
         """Tints columns from the TOP label to the BOT label."""
-        high = self.y(self.tracks + 1) - self.pad / 2 - self.label_room
-        low = self.y(0) + self.pad / 2 + self.label_room
+        high, low = self._labels_end()
         with self.sheet.group("bands"):
             for column in sorted(set(columns)):
                 self.sheet.add("rect", class_="band", x=self.x(column) - self.dx / 2, y=high, width=self.dx,
                                height=low - high)
+
+    def draw_caps(self, columns):
+        """A bar over the TOP label of each column, below its number, and one under the BOT label."""
+        (high, low), u, wide = self._labels_end(), self.unit, 0.84 * self.dx
+        with self.sheet.group("caps"):
+            for column in sorted(set(columns)):
+                for y in (high - 6.5 * u, low + 0.5 * u):
+                    self.sheet.add("rect", class_="cap", x=self.x(column) - wide / 2, y=y, width=wide, height=6 * u)
 
     def mark_pin(self, column, row, class_="mark"):
         """A box round a pin and its net, large enough to be found on a sheet shown small; a partner's is dashed."""
@@ -152,7 +163,7 @@ class Frame:
 
     def finish(self, title, kinds, sentences):
         """Legend and caption; answers the whole file."""
-        below = self.y(0) + self.pad / 2 + self.label_room + 24 * self.unit
+        below = self._labels_end()[1] + 24 * self.unit
         below = draw_legend(self.sheet, kinds, self.width, below, self.unit)
         return finished(self.sheet, self.width, below, self.unit, title, sentences)
 

@@ -15,6 +15,8 @@ WORDS = {
     "partner": "first pin of its net",
     "above": "the upper net's trunk must lie above the lower net's",
     "same": "the same net again",
+    "fewest": "column of the ring with the fewest nets",
+    "fewest-same": "the same net again in that ring",
 }
 SAMPLE = 26
 
@@ -62,11 +64,16 @@ def draw_sample(sheet, kind, x, y, u):
         draw_arrow(sheet, middle, y - 9 * u, y + 9 * u, u)
     if kind == "same":
         sheet.add("line", class_="same", x1=x, y1=y, x2=end, y2=y, stroke_width=1.4 * u, stroke_dasharray=dashes(u))
+    if kind == "fewest":
+        sheet.add("rect", class_="cap", x=middle - 8 * u, y=y - 9 * u, width=16 * u, height=4 * u)
+        sheet.add("rect", class_="fewest-pin", x=middle - 5 * u, y=y - 3 * u, width=10 * u, height=10 * u)
+    if kind == "fewest-same":
+        sheet.add("line", class_="fewest-same", x1=x, y1=y, x2=end, y2=y, stroke_width=2.2 * u)
 
 
-def draw_arrow(sheet, x, high, low, unit):
-    """An arrow straight down, its head ending at the low place."""
-    sheet.add("line", class_="above", x1=x, y1=high, x2=x, y2=low - 6 * unit, stroke_width=2 * unit)
+def draw_arrow(sheet, x, high, low, unit, of=""):
+    """An arrow straight down, its head ending at the low place; its classes begin with the name of what it is of."""
+    sheet.add("line", class_=f"{of}above", x1=x, y1=high, x2=x, y2=low - 6 * unit, stroke_width=2 * unit)
     corners = ((x - 4.5 * unit, low - 8 * unit), (x + 4.5 * unit, low - 8 * unit), (x, low))
     points = " ".join(f"{across:.2f},{down:.2f}" for across, down in corners)
-    sheet.add("polygon", class_="head", stroke="none", points=points)
+    sheet.add("polygon", class_=f"{of}head", stroke="none", points=points)

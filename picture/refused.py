@@ -1,4 +1,5 @@
-"""Pictures of a refused pin list: a tangled one with its ring, or rows with the refused place marked."""
+"""Pictures of a refused pin list: a tangled one with its rings, or rows with the refused place marked."""
+from command.rings import is_same, words_of
 from picture.frame import Frame, labelled
 from picture.legend import draw_arrow
 from picture.scenes import status_of
@@ -6,24 +7,34 @@ from picture.svg import dashes, words_wide
 
 WIDEST = 512
 PAIRS_SPELT = 12
+OF_FEWEST = "fewest-"  # what the classes of shapes of the ring with the fewest nets begin with
 
 
-# A tangled list: the ring runs down each of its columns, and from there along a net to the next.
+# A tangled list: a ring runs down each of its columns, and from there along a net to the next. The router's walk shows
+# one; the ring with the fewest nets is drawn beside it where it is another.
 
-def draw_ring(rows, verdict, words):
+def draw_rings(rows, verdict, fewest, words):
     frame = Frame(rows, 0, column_step=84 if len(rows[0]) <= 10 else None, track_step=190)
     title = f"width {frame.columns} · tangled: a ring of {verdict.place} nets"
+    other = () if is_same(fewest, verdict.ring) else fewest.pairs
+    walk = {column for _, column in verdict.ring}
     frame.draw_title(title, status_of(verdict), False)
     frame.draw_grid()
-    frame.draw_bands(column for _, column in verdict.ring)
+    frame.draw_bands(walk)
+    if other:
+        frame.draw_caps(column for _, column in other)
     frame.draw_pins()
     parked, more = frame.draw_parked()
     with frame.sheet.group("marks"):
-        draw_same_nets(frame, verdict.ring)
+        draw_same_nets(frame, other, OF_FEWEST, stroke_width=min(2.2 * frame.unit, frame.dx / 2))
+        draw_same_nets(frame, verdict.ring, stroke_width=1.4 * frame.unit, stroke_dasharray=dashes(frame.unit))
         for _, column in verdict.ring:
             draw_step(frame, column)
-        draw_pills(frame, verdict.ring)
-    return frame.finish(title, ["pin", *parked, "ring", "above", "same"], [words, *spelt(verdict.ring), *more])
+        for column in sorted({column for _, column in other} - walk):
+            draw_step(frame, column, OF_FEWEST)
+        draw_pills(frame, verdict.ring, other)
+    kinds = ["pin", *parked, "ring", "above", "same", *(("fewest", "fewest-same") if other else ())]
+    return frame.finish(title, kinds, [words, *spelt(verdict.ring), words_of(fewest, verdict.ring), *more])
 
 
 def onward(ring):
@@ -31,42 +42,48 @@ def onward(ring):
     return list(zip(ring, ring[1:] + ring[:1]))
 
 
-def draw_same_nets(frame, ring):
+def draw_same_nets(frame, ring, of="", **line):
     """From the lower pin of each column to the next column, where the same net is the upper one."""
     for (_, column), (net, following) in onward(ring):
-        frame.sheet.add("line", f"net {net} again", class_="same", x1=frame.x(column), y1=frame.y(0),
-                        x2=frame.x(following), y2=frame.y(1), stroke_width=1.4 * frame.unit,
-                        stroke_dasharray=dashes(frame.unit))
+        frame.sheet.add("line", f"net {net} again", class_=f"{of}same", x1=frame.x(column), y1=frame.y(0),
+                        x2=frame.x(following), y2=frame.y(1), **line)
 
 
-def draw_step(frame, column):
+def draw_step(frame, column, of=""):
     """The two pins of a ring's column and the arrow from the upper to the lower."""
     size = min(1.3 * frame.unit, frame.dx / 10)
-    draw_arrow(frame.sheet, frame.x(column), frame.y(1), frame.y(0) - frame.pad / 2, size)
+    draw_arrow(frame.sheet, frame.x(column), frame.y(1), frame.y(0) - frame.pad / 2, size, of)
     for row in (1, 0):
-        frame.sheet.add("rect", class_="ring-pin", x=frame.x(column) - frame.pad / 2, y=frame.y(row) - frame.pad / 2,
-                        width=frame.pad, height=frame.pad)
+        frame.sheet.add("rect", class_=f"{of or 'ring-'}pin", x=frame.x(column) - frame.pad / 2,
+                        y=frame.y(row) - frame.pad / 2, width=frame.pad, height=frame.pad)
 
 
-def draw_pills(frame, ring):
-    """'a above b' on each arrow; turned where columns are narrow, and left out where even then two would overlap."""
+def draw_pills(frame, ring, other):
+    """'a above b' on each arrow; turned where columns are narrow, and left out where even then two would overlap. The
+    ring with the fewest nets, if it is another, has its own before the walk's."""
     size = 12 * frame.unit
-    steps = sorted((column, f"{net} above {lower}") for (net, column), (lower, _) in onward(ring))
-    long, high = max(words_wide(words, size) for _, words in steps) + 8 * frame.unit, 1.7 * size
+    steps = {column: f"{net} above {lower}" for (net, column), (lower, _) in onward(other) + onward(ring)}
+    walk, first = ({column for _, column in pairs} for pairs in (ring, other))
+    long, high = max(words_wide(words, size) for words in steps.values()) + 8 * frame.unit, 1.7 * size
     upright = long + 4 <= frame.dx
     wide, tall = (long, high) if upright else (high, long)
-    free, y = 0, (frame.y(0) + frame.y(1)) / 2
+    placed = []
     with frame.sheet.group("pills", font_size=size):
-        for column, words in steps:
+        for column in sorted(steps, key=lambda column: (column not in first, column)):
             x = frame.x(column)
-            if x - wide / 2 < free:
-                continue
-            free = x + wide / 2
-            frame.sheet.add("rect", class_="pill", x=x - wide / 2, y=y - tall / 2, width=wide, height=tall,
-                            rx=0.4 * size)
-            write = frame.sheet.text if upright else frame.sheet.turned
-            across, down = (x, y + 0.36 * size) if upright else (x + 0.36 * size, y)
-            write(across, down, words, text_anchor="middle")
+            if all(abs(x - there) >= wide for there in placed):
+                placed.append(x)
+                draw_pill(frame, x, wide, tall, steps[column], "" if column in walk else OF_FEWEST)
+
+
+def draw_pill(frame, x, wide, tall, words, of):
+    """Words in a box half way down a column; turned if it is higher than wide."""
+    size, y = 12 * frame.unit, (frame.y(0) + frame.y(1)) / 2
+    frame.sheet.add("rect", class_=f"{of}pill", x=x - wide / 2, y=y - tall / 2, width=wide, height=tall, rx=0.4 * size)
+    if wide > tall:
+        frame.sheet.text(x, y + 0.36 * size, words, text_anchor="middle")
+    else:
+        frame.sheet.turned(x + 0.36 * size, y, words, text_anchor="middle")
 
 
 def spelt(ring):

@@ -1,6 +1,7 @@
 """A sheet that collects SVG shapes as text, with escaping, and the colours that all pictures share.
 
-Blue, orange and near black stay apart for colour-blind readers; marks are magenta and, besides, dashed or ringed.
+Blue, orange and near black stay apart for colour-blind readers; marks are magenta and, besides, dashed or ringed. The
+ring with the fewest nets is blue, as no copper is drawn beside it, and its columns are capped.
 """
 from contextlib import contextmanager
 from html import escape
@@ -31,6 +32,10 @@ text { font-family: 'DejaVu Sans', Verdana, Arial, sans-serif; fill: #1d2733 }
 .head { fill: #a8005c }
 .same { stroke: #5b676d; fill: none }
 .pill { fill: #ffffff; stroke: #a8005c }
+.cap, .fewest-pin, .fewest-head { fill: #0f6cab }
+.fewest-above { stroke: #0f6cab; fill: none }
+.fewest-same { stroke: #0f6cab; stroke-opacity: 0.7; fill: none }
+.fewest-pill { fill: #ffffff; stroke: #0f6cab }
 .cell { fill: #eff2f0; stroke: #cdd5d8 }
 .byte { font-family: 'DejaVu Sans Mono', Consolas, monospace }
 """

@@ -43,13 +43,23 @@ def turned(width, by):
     return text_of(nets, nets[by:] + nets[:by])
 
 
+def shortcut(nets, upper, lower):
+    """One ring through all nets, and a column more that cuts it short."""
+    top, bot = list(range(1, nets + 1)), list(range(2, nets + 1)) + [1]
+    return text_of(top + [upper], bot + [lower])
+
+
 GOOD = {"A": A, "B": B, "E": b"TOP 1 0 1 2 0 2\nBOT 0 3 0 0 3 0\n", "F": b"TOP 0\nBOT 0\n", "G": b"TOP 5\nBOT 5\n",
         "M, net 511": b"TOP 511\nBOT 511\n", "M, 512 columns": text_of([0] * 512, [0] * 512),
         "64 columns": random_channel(64, 30, 1), "512 columns": random_channel(512, 511, 2),
         "401 tracks": staircase(401), "L": b"TOP 1 0\nBOT 0 0\n", "parked, opposite a net": OPPOSITE,
         "all parked": text_of(range(1, 201), range(201, 401))}
 RINGS = {"C": b"TOP 1 2\nBOT 2 1\n", "D": D, "40 columns": turned(40, 7), "511 columns": turned(511, 1),
-         "parked": b"TOP 1 2 3 1 0 8\nBOT 2 3 2 9 41 0\n"}
+         "parked": b"TOP 1 2 3 1 0 8\nBOT 2 3 2 9 41 0\n", "cut short": shortcut(4, 2, 1),
+         "apart": b"TOP 2 5 3 1 4\nBOT 4 3 1 5 2\n", "as many nets": b"TOP 5 5 1 3\nBOT 3 1 5 5\n",
+         "begun at another net": b"TOP 1 1 5 3\nBOT 5 0 3 5\n", "41 columns, cut short": shortcut(40, 13, 7),
+         "512 columns, cut short": shortcut(511, 300, 290),
+         "parked and cut short": b"TOP 1 2 3 4 2 9\nBOT 2 3 4 1 1 0\n"}
 REFUSED_ROWS = {  # text, columns drawn, marked points
     "M, net 512": (b"TOP 512\nBOT 512\n", 1, {(1, 1)}),
     "M, 513 columns": (text_of([0] * 513, [0] * 513), 513, {(513, 1), (513, 0)}),
@@ -76,8 +86,8 @@ REFUSED_BOARDS = {  # file, words
 
 
 # Runs whose pin list is padded too; it has the same picture.
-PADDED = ("A", "512 columns", "parked, opposite a net", "ring D", "ring parked", "M, 513 columns", "uneven",
-          "5,000 digits", "H", "I", "J", "bad piece", "short to a parked pin")
+PADDED = ("A", "512 columns", "parked, opposite a net", "ring D", "ring parked", "ring cut short", "M, 513 columns",
+          "uneven", "5,000 digits", "H", "I", "J", "bad piece", "short to a parked pin")
 
 
 def faulty():

@@ -146,8 +146,17 @@ def boxed(sheet, class_="mark"):
     return found
 
 
+def pairs_of(lines):
+    """The pairs of net and column of RING lines."""
+    return [tuple(map(int, line.split()[1:])) for line in lines.decode().splitlines()]
+
+
+def onward(ring):
+    return zip(ring, ring[1:] + ring[:1])
+
+
 def check_ring(name, answer, pins):
-    ring = [tuple(map(int, line.split()[1:])) for line in answered("listing", pins).decode().splitlines()[1:]]
+    ring, fewest = pairs_of(answered("listing", pins).partition(b"\n")[2]), pairs_of(answered("ring_finder", pins))
     top, bot = channel.parse(pins)
     check(f"{name}: status", answer[0] == 1 and b"tangled" in answer[2])
     sheet = sheet_of(name, answer)
@@ -157,18 +166,59 @@ def check_ring(name, answer, pins):
     check(f"{name}: ring pins", {sheet.middle(e) for e in sheet.inside("marks", "ring-pin")} == due)
     bands = [sheet.point(float(e.get("x")) + float(e.get("width")) / 2, 0)[0] for e in sheet.inside("bands", "band")]
     check(f"{name}: bands", [round(c, 1) for c in bands] == sorted(c for _, c in ring))
-    arrows = {sheet.grid_point(e.get("x1"), e.get("y1")) for e in sheet.inside("marks", "above")}
-    check(f"{name}: arrows", arrows == {(c, 1) for _, c in ring})
-    same = {(sheet.grid_point(e.get("x1"), e.get("y1")), sheet.grid_point(e.get("x2"), e.get("y2")))
-            for e in sheet.inside("marks", "same")}
-    check(f"{name}: same nets", same == {((a, 0), (b, 1)) for (_, a), (_, b) in zip(ring, ring[1:] + ring[:1])})
-    above = {f"{top[c - 1]} above {bot[c - 1]}" for _, c in ring}
+    check_steps(name, sheet, "", ring, {c for _, c in ring})
+    above = {f"{top[c - 1]} above {bot[c - 1]}" for _, c in ring + fewest}
     pills = {e.text for g in sheet.root.iter(SVG + "g") if g.get("class") == "pills" for e in g.iter(SVG + "text")}
     check(f"{name}: above", pills and pills <= above and (len(ring) > 40 or pills == above))
     check(f"{name}: words", "lie above itself" in sheet.words())
+    check_fewest(name, sheet, ring, fewest)
     once = {net for net, count in Counter(top + bot).items() if net and count == 1}
     check_parked(name, answer, sheet, {(c, r) for r, row in ((1, top), (0, bot)) for c, net in enumerate(row, 1)
                                        if net in once})
+
+
+def check_steps(name, sheet, of, ring, columns):
+    """Arrows in these columns, and a line from the lower pin of each column of the ring to the next."""
+    arrows = [sheet.grid_point(e.get("x1"), e.get("y1")) for e in sheet.inside("marks", f"{of}above")]
+    check(f"{name}: {of}arrows", sorted(arrows) == sorted((c, 1) for c in columns))
+    same = [(sheet.grid_point(e.get("x1"), e.get("y1")), sheet.grid_point(e.get("x2"), e.get("y2")))
+            for e in sheet.inside("marks", f"{of}same")]
+    check(f"{name}: {of}same nets", sorted(same) == sorted(((a, 0), (b, 1)) for (_, a), (_, b) in onward(ring)))
+
+
+def check_fewest(name, sheet, ring, fewest):
+    """The ring with the fewest nets has marks of its own, and none where it is the one that is drawn already."""
+    is_same = set(ring) == set(fewest)
+    other = [] if is_same else fewest
+    alone = {c for _, c in other} - {c for _, c in ring}
+    check_steps(name, sheet, "fewest-", other, alone)
+    pins = [sheet.middle(e) for e in sheet.inside("marks", "fewest-pin")]
+    check(f"{name}: fewest pins", sorted(pins) == sorted((c, row) for c in alone for row in (1, 0)))
+    check_caps(name, sheet, [c for _, c in other])
+    pills = len(sheet.inside("pills", "fewest-pill"))
+    check(f"{name}: fewest pills", pills <= len(alone) and (len(ring) > 40 or pills == len(alone)))
+    for kind in ("cap", "fewest-same"):
+        check(f"{name}: {kind} in the legend", len(sheet.inside("legend", kind)) == (not is_same))
+    said = f"The fewest wires to move: {len(fewest)} nets"
+    (net, column), (lower, _) = fewest[0], fewest[1]
+    spelt = f"{said}: net {net} above net {lower} in column {column}, "
+    check(f"{name}: fewest in words", (f"{said}, the same ring." if is_same else spelt) in sheet.words())
+
+
+def check_caps(name, sheet, columns):
+    """Two caps for each column, between the numbers of columns and the nets, and below these."""
+    high, low = (float(sheet.board.get("y")) + at * float(sheet.board.get("height")) for at in (0, 1))
+    numbers = max(float(e.get("y")) for e in sheet.inside("numbers", "column-number"))
+    legend = min(float(e.get("y")) for g in sheet.root.iter(SVG + "g") if g.get("class") == "legend"
+                 for e in g.iter(SVG + "text"))
+    found = {1: [], 0: []}
+    for e in sheet.inside("caps", "cap"):
+        x, y, wide, tall = (float(e.get(k)) for k in ("x", "y", "width", "height"))
+        column, row = sheet.point(x + wide / 2, 0)[0], 1 if y < high else 0
+        found[row].append(round(column, 1))
+        check(f"{name}: the place of a cap", numbers < y < y + tall < high if row else low < y < y + tall < legend - 9)
+        check(f"{name}: the width of a cap", wide < float(sheet.board.get("width")) / sheet.columns)
+    check(f"{name}: caps", found == {1: sorted(columns), 0: sorted(columns)})
 
 
 def check_rows(name, answer, columns, marks):

@@ -2,11 +2,11 @@
  *
  * Usage: batch < questions > lines. A question is, its numbers most significant byte first:
  *
- *     kind      1 byte: 0 read, 1 bounds, 2 route, 3 judge, 4 blank, 5 looks, 6 ceiling, 7 own blank
+ *     kind      1 byte: 0 read, 1 bounds, 2 route, 3 judge, 4 blank, 5 looks, 6 ceiling, 7 own blank, 8 fewest ring
  *     fill      1 byte: what the lent buffers hold before; if it is odd, a buffer of length 0 is lent as NULL
  *     lent      2 numbers of 4 bytes: the lengths of the buffers that the entry writes (read: TOP, BOT; route: ring,
- *               board; judge: scratch, and one that is not used; blank and own blank: the tracks, and one that is not
- *               used)
+ *               board; judge: scratch, and one that is not used; fewest ring: ring, and one that is not used; blank
+ *               and own blank: the tracks, and one that is not used)
  *     lengths   3 numbers of 4 bytes: of TOP (own blank: of the table), of BOT, of the text or board file
  *     data      the numbers of TOP and BOT, 4 bytes each, then the text or board file
  *
@@ -20,7 +20,7 @@
 
 #include "channel.h"
 
-enum { READ, BOUNDS, ROUTE, JUDGE, BLANK, LOOKS, CEILING, OWN_BLANK };
+enum { READ, BOUNDS, ROUTE, JUDGE, BLANK, LOOKS, CEILING, OWN_BLANK, FEWEST_RING };
 enum { LENT = 2, LENGTHS = 3, HEADER = 2 + 4 * (LENT + LENGTHS), GUARD = 64, LONGEST = 1 << 20 };
 
 struct question {
@@ -136,6 +136,14 @@ static void ask_route(const struct question *q)
     give_back(board, number == 0 ? 4 + 4 * (size_t)(value >> 16) : 0);
 }
 
+static void ask_fewest_ring(const struct question *q)
+{
+    struct buffer ring = lend("ring", sizeof(uint32_t), q->lent[0], q->fill);
+    uint64_t answer = cabjirt_fewest_ring(q->top, q->top_length, q->bot, q->bot_length, start_of(&ring), ring.length);
+    put_answer(answer);
+    give_back(ring, cabjirt_number(answer) == 0 ? 2 * (size_t)cabjirt_value(answer) : 0);
+}
+
 static void ask_judge(const struct question *q)
 {
     struct buffer scratch = lend("scratch", sizeof(uint32_t), q->lent[0], q->fill);
@@ -172,6 +180,9 @@ static void ask(const struct question *q)
         break;
     case OWN_BLANK:
         put_answer(cabjirt_own_blank(q->top, q->top_length, q->lent[0]));
+        break;
+    case FEWEST_RING:
+        ask_fewest_ring(q);
         break;
     default:
         fail("a question is of no kind");

@@ -9,8 +9,8 @@ import channel
 ROOT = Path(__file__).resolve().parent.parent
 PROGRAM = ROOT / "target" / "batch"
 LIBRARY = ROOT / "target" / "staticlib" / "libscreen_api.a"
-READ, BOUNDS, ROUTE, JUDGE, BLANK, LOOKS, CEILING, OWN_BLANK = range(8)
-NAMES = ("read", "bounds", "route", "judge", "blank", "looks", "ceiling", "own blank")
+READ, BOUNDS, ROUTE, JUDGE, BLANK, LOOKS, CEILING, OWN_BLANK, FEWEST_RING = range(9)
+NAMES = ("read", "bounds", "route", "judge", "blank", "looks", "ceiling", "own blank", "fewest ring")
 WORKERS = 2  # processes that make cases
 HEADER = struct.Struct(">BB5I")
 
@@ -120,6 +120,17 @@ def route(top, bot, fill=0, ring=channel.RING, board=channel.BOARD):
         answer, pairs = (refusal.number, refusal.place), [n for pair in refusal.ring for n in pair]
     due = joined(*answer, "ring", listed(pairs), "kept board", file.hex(), "kept inputs kept")
     return Case(ROUTE, due, fill, (ring, board), top, bot)
+
+
+def fewest_ring(top, bot, fill=0, ring=channel.RING):
+    pairs = ()
+    try:
+        pairs = channel.fewest_ring(top, bot, ring)
+        answer = 0, len(pairs)
+    except channel.Refused as refusal:
+        answer = refusal.number, refusal.place
+    due = joined(*answer, "ring", listed(n for pair in pairs for n in pair), "kept inputs kept")
+    return Case(FEWEST_RING, due, fill, (ring, 0), top, bot)
 
 
 def judge(top, bot, file, fill=0, scratch=channel.SCRATCH):

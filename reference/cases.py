@@ -9,11 +9,12 @@ from pathlib import Path
 import board_cases
 import channel
 import crowded_boards
+import ring_channels
 import row_cases
 import table_cases
 import text_cases
 
-OPEN, PIECE, BLANK, READ, CHECK, BOUNDS, FILL, JUDGE, LOOKS, OWN_BLANK = range(10)
+OPEN, PIECE, BLANK, READ, CHECK, BOUNDS, FILL, JUDGE, LOOKS, OWN_BLANK, FEWEST = range(11)
 
 
 def pair(number):
@@ -102,10 +103,24 @@ class Cases:
         self.add(LOOKS, rows_data(top, bot), self.told("LOOKS", lambda: (channel.looks(top, bot),)),
                  self.told("CEILING", lambda: (channel.ceiling(top, bot),)))
 
+    def fewest(self, top, bot):
+        """The ring with the fewest nets; what it does not fill of the ring buffer, which holds 7777, must still hold
+        it."""
+        pairs = ()
+        try:
+            pairs = channel.fewest_ring(top, bot)
+            lines = [("FEWEST", 0, len(pairs) or "NONE")]
+        except channel.Refused as refusal:
+            lines = [("FEWEST", refusal.number, refusal.place)]
+        if pairs:
+            lines.append(("RING", *(n for pair in pairs for n in pair)))
+        self.add(FEWEST, rows_data(top, bot), *lines, ("KEPT",))
+
     def channel_cases(self, top, bot):
         self.bounds(top, bot)
         self.fill(top, bot)
         self.looks(top, bot)
+        self.fewest(top, bot)
 
     def judge(self, top, bot, file):
         self.add(JUDGE, pair(2 + 2 * (len(top) + len(bot))) + rows_data(top, bot) + file,
@@ -119,6 +134,7 @@ def main(folder):
     row_cases.add_all(cases)
     crowded_boards.add_all(cases)
     table_cases.add_all(cases)
+    ring_channels.add_all(cases)
     cases.input += bytes([OPEN]) + pair(5) + bytes(4)  # five bytes are announced, and four follow
     cases.lines.append("CUT")
     folder.joinpath("stdin").write_bytes(bytes(cases.input))

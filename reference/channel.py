@@ -3,8 +3,9 @@ natural.
 
 Rows stay as they were handed over; each number in them is asked whether it is a net or parked. Nets are kept in
 dictionaries and sets, the form of a text is a regular expression, the chain is found by removing nets from the bottom
-up, the looks of a fill are summed from the tracks of its nets, the judge floods grid points layer by layer, and a table
-of blanks is compared with the set of its entries. Every function answers the paper's numbers: a refusal is
+up, the ring with the fewest nets from the sets of nets that so many steps lead to, of all nets at once, the looks of a
+fill are summed from the tracks of its nets, the judge floods grid points layer by layer, and a table of blanks is
+compared with the set of its entries. Every function answers the paper's numbers: a refusal is
 `Refused(number, place)`, raised or returned.
 """
 import re
@@ -154,6 +155,37 @@ def ring_of(steps, unplaced):
         walked.append((net, column))
         net = lower
     return walked[[n for n, _ in walked].index(net):]
+
+
+def fewest_ring(top, bot, ring=RING):
+    """The pairs of the ring with the fewest nets (Req 05), none if there is no ring; of several the lowest list, each
+    begun at its lowest net."""
+    if ring < RING:
+        raise Refused(1, RING)
+    check(top, bot)
+    steps = steps_of(top, bot)
+    # reached[k][n] has the bit of each net to which k steps down lead from net n; fewer lead back to n than there are
+    # nets, if any do
+    reached = [{n: 1 << n for n in {*top, *bot}}]
+    for _ in columns_of(top, bot):
+        further = dict.fromkeys(reached[0], 0)
+        for a, b, _ in steps:
+            further[a] |= reached[-1][b]
+        reached.append(further)
+        back = [n for n, nets in further.items() if nets >> n & 1]
+        if back:
+            return ring_by(steps, min(back), reached)
+    return []
+
+
+def ring_by(steps, begin, reached):
+    """The pairs from a net back to it, each through the lowest column from which the steps left lead there."""
+    net, pairs = begin, []
+    for nets in reversed(reached[:-1]):
+        column, lower = min((c, b) for a, b, c in steps if a == net and nets[b] >> begin & 1)
+        pairs.append((net, column))
+        net = lower
+    return pairs
 
 
 def looks(top, bot):
@@ -390,6 +422,14 @@ def board(text):
         top, bot = read(text)
         tracks, _, pieces = route(top, bot)
         return encode(len(top), tracks, pieces)
+    except Refused as refusal:
+        return refused_lines(refusal)
+
+
+def ring_lines(text):
+    """The pairs of the ring with the fewest nets, a line each, or NONE (Req 05)."""
+    try:
+        return b"".join(line("RING", n, c) for n, c in fewest_ring(*read(text))) or line("NONE")
     except Refused as refusal:
         return refused_lines(refusal)
 

@@ -11,14 +11,17 @@ import random_boards
 import random_channels
 import random_tables
 import random_texts
+import ring_channels
+import ring_checks
 import row_cases
 import small_channels
 import table_cases
 import text_cases
 
 # What must be shown by some good board, some good or faulty board of few pieces, some channel or board with parked
-# pins, some text that is read, some text that is garbled, some looks, some ceiling, some entry chosen of a table of
-# blanks, and some table that is refused; and the refusals that looks and ceiling must have.
+# pins, some text that is read, some text that is garbled, some looks, some ceiling, some answer of the ring with the
+# fewest nets, some entry chosen of a table of blanks, and some table that is refused; and the refusals that looks,
+# ceiling and that ring must have.
 GOOD = ("several trunks a net", "a tangled channel", "copper at an edge place without a pin",
         "copper on a parked pin", "a parked pin without copper")
 SWEPT = ("a range inside another", "ranges that end where the next starts", "equal ranges",
@@ -29,13 +32,17 @@ GARBLED = ("a carriage return in the place", "one before the place", "a tab in t
            "a space before a line's end in the place")
 LOOKS = ("a ring and no track", "a ring above some tracks", "as many as the ceiling", "fewer than the ceiling",
          "parked pins")
+FEWEST_RING = ("no ring", "no ring and parked pins", "a ring of two nets", "a long ring", "the walk's ring",
+               "fewer nets than the walk's", "a lowest net above the walk's", "as many nets through other columns",
+               "as many nets from a higher lowest net", "parked pins and a ring")
 CEILING = ("no net that spans", "parked pins and no net that spans")
 OWN_BLANK = ("no tracks", "as many tracks as the entry holds", "the first entry of several", "an inner one",
              "the last of several", "a table of one entry", "a table of 64")
 NO_OWN_BLANK = ("no entry", "over 64 entries", "a 0 in the place", "a number over 512 in the place",
                 "equal neighbours in the place", "a fall in the place", "tracks just above the last entry",
                 "over 512 tracks and a bad table")
-REFUSED = tuple(f"refusal {number} of {name}" for name in ("looks", "ceiling") for number in (3, 4, 5))
+REFUSED = (*(f"refusal {number} of {name}" for name in ("looks", "ceiling", "fewest ring") for number in (3, 4, 5)),
+           "refusal 1 of fewest ring")
 SMALL_CHANNELS = [tuple(map(list, rows)) for rows in small_channels.shapes(2)]
 
 
@@ -49,6 +56,21 @@ def lent(rng, needed):
 def rows_cases(rows, fill=0):
     """The cases of the entries that take rows alone."""
     return batch.bounds(*rows, fill), batch.looks(*rows, fill), batch.ceiling(*rows, fill)
+
+
+def ring_job(rng):
+    """Channels with several rings, and rows that are refused."""
+    for _ in range(400):
+        rows = ring_channels.drawn(rng) if rng.random() < 0.8 else random_channels.refused(rng)
+        yield batch.fewest_ring(*rows, rng.randrange(256), lent(rng, channel.RING))
+
+
+def fixed_ring_job(rng):
+    """Channels whose shortest rings were found by hand, and the dearest ones."""
+    for top, bot, _ in ring_channels.BY_HAND:
+        yield batch.fewest_ring(top, bot)
+    for rows in ring_channels.large(rng):
+        yield batch.fewest_ring(*rows, rng.randrange(256))
 
 
 def table_job(rng):
@@ -76,9 +98,11 @@ def channel_job(rng):
     for _ in range(300):
         rows = random_channels.escaping(rng)
         yield batch.route(*rows, rng.randrange(256), lent(rng, channel.RING), lent(rng, channel.BOARD))
+        yield batch.fewest_ring(*rows, rng.randrange(256), lent(rng, channel.RING))
         yield from rows_cases(rows, rng.randrange(256))
         rows = random_channels.refused(rng)
         yield batch.route(*rows, rng.randrange(256), lent(rng, channel.RING), lent(rng, channel.BOARD))
+        yield batch.fewest_ring(*rows, rng.randrange(256), lent(rng, channel.RING))
         yield from rows_cases(rows, rng.randrange(256))
         bare = channel.encode(max(1, len(rows[0])), 0, [])
         yield batch.judge(*rows, bare, rng.randrange(256), lent(rng, channel.SCRATCH))
@@ -142,6 +166,7 @@ def wide_job(rng):
     for _ in range(4):
         rows = random_channels.wide(rng)
         yield batch.route(*rows, rng.randrange(256))
+        yield batch.fewest_ring(*rows, rng.randrange(256))
         yield from rows_cases(rows, rng.randrange(256))
         yield batch.read(random_texts.typed(rng, *rows), rng.randrange(256))
     tracks, pieces = random_boards.routed(rng, rows)
@@ -172,6 +197,7 @@ def fixed_job(_):
         yield batch.read(text, 1)
     for rows in row_cases.channels():
         yield batch.route(*rows)
+        yield batch.fewest_ring(*rows)
         yield from rows_cases(rows)
     for rows in (row_cases.chained(511), row_cases.crowded()):  # the most tracks, and the most beside two parked pins
         tracks, _, pieces = channel.draw(*rows)
@@ -186,15 +212,20 @@ def fixed_job(_):
         for ring, board in ((0, 0), (1021, 10239), (1022, 10239), (1021, 10240), (1023, 10241)):
             yield batch.route([], [700], fill, ring, board)
             yield batch.route([1, 2], [2, 1], fill, ring, board)
+        for ring in (0, 1021, 1022, 1023):
+            yield batch.fewest_ring([], [700], fill, ring)
+            yield batch.fewest_ring([1, 2], [2, 1], fill, ring)
+            yield batch.fewest_ring([1, 1], [0, 0], fill, ring)
         for scratch in (0, 5118, 5119, 5120):
             yield batch.judge([], [700], b"", fill, scratch)
         for rows in (([], []), ([], [700]), ([0] * 513, []), ([0] * 513, [700] * 514), ([1, 2], [700])):
             yield from rows_cases(rows, fill)
+            yield batch.fewest_ring(*rows, fill)
 
 
 JOBS = ((fixed_job, 1), (small_board_job, 1), (wide_job, 10), (maze_job, 8), (own_board_job, 8), (channel_job, 10),
         (scatter_job, 6), (crowded_job, 6), (fixed_crowded_job, 1), (text_job, 12), (fixed_table_job, 1),
-        (table_job, 4))
+        (table_job, 4), (fixed_ring_job, 1), (ring_job, 4))
 
 
 def jobs(seed):
@@ -222,6 +253,8 @@ def features(case):
         yield from looks_features(case)
     if case.kind() == batch.OWN_BLANK:
         yield from own_blank_features(case)
+    if case.kind() == batch.FEWEST_RING:
+        yield from fewest_ring_features(case)
 
 
 def good_features(case):
@@ -305,6 +338,23 @@ def looks_features(case):
         tracks, _, left = channel.filled(*rows)
         names, shown = LOOKS, (left and not tracks, left and tracks, 0 < value == ceiling, value < ceiling, parked)
     yield from (name for name, seen in zip(names, shown) if seen)
+
+
+def fewest_ring_features(case):
+    """What the ring with the fewest nets of a channel shows, or its refusal."""
+    if case.number() != 0:
+        yield f"refusal {case.number()} of {batch.NAMES[case.kind()]}"
+        return
+    rows, _ = case.inputs()
+    nets, parked, walk = case.place(), small_channels.parked_in(*rows), ring_checks.walk_of(*rows)
+    pairs = channel.fewest_ring(*rows)
+    # other rings are tried where there are few
+    rings = [ring for ring in ring_checks.rings(*rows) if len(ring) == nets] if 0 < len(rows[0]) <= 9 else []
+    shown = (nets == 0, nets == 0 and parked, nets == 2, nets > 9, 0 < nets and list(walk) == pairs,
+             0 < nets < len(walk), 0 < nets and min(walk) < min(pairs),
+             any({n for n, _ in ring} == {n for n, _ in pairs} and set(ring) != set(pairs) for ring in rings),
+             any(min(ring) > min(pairs) for ring in rings), 0 < nets and parked)
+    yield from (name for name, seen in zip(FEWEST_RING, shown) if seen)
 
 
 def own_blank_features(case):

@@ -1,4 +1,4 @@
-"""Runs the three programs and `./channel make` on the bench examples A to M of the owner's papers, and on some of the
+"""Runs the four programs and `./channel make` on the bench examples A to M of the owner's papers, and on some of the
 spaces of Req 01, and compares what they write with the papers, to the letter.
 
 Usage: python3 reference/examples.py target/bin
@@ -42,6 +42,14 @@ LISTED = {
 }
 
 
+RINGS = {"C": b"RING 1 1\nRING 2 2\n", "D": b"RING 2 2\nRING 3 3\n"}  # of those that have one, with the fewest nets
+
+
+def ring_due(name, listed):
+    """What the ring finder writes of an example, whose refusal it shares with the listing."""
+    return RINGS.get(name, listed if listed.startswith(b"REFUSED") else b"NONE\n")
+
+
 def run(program, data=b"", cwd=None):
     return subprocess.run([program], input=data, stdout=subprocess.PIPE, cwd=cwd, check=True).stdout
 
@@ -74,6 +82,7 @@ def main(bins):
 
     for name, (text, due) in LISTED.items():
         expect(f"listing {name}", run(bins / "listing", text), due)
+        expect(f"ring {name}", run(bins / "ring_finder", text), ring_due(name, due))
         board = run(bins / "board_writer", text)
         expect(f"board {name}", board, channel.board(text))
         if not due.startswith(b"REFUSED"):

@@ -1,4 +1,4 @@
-"""Cases for the three programs: what each is given and what it must write, to the byte."""
+"""Cases for the four programs: what each is given and what it must write, to the byte."""
 import random
 import re
 import subprocess
@@ -9,10 +9,12 @@ import examples
 import random_boards
 import random_channels
 import random_texts
+import ring_channels
 import row_cases
 import text_cases
 
 BINS = Path(__file__).resolve().parent.parent / "target" / "bin"
+DUE = {"listing": channel.listing, "board_writer": channel.board, "ring_finder": channel.ring_lines}
 FORM_SHOWN = re.compile(rb"TOP[ 0-9]+\r?\nBOT[ 0-9]+\r?\n")
 
 
@@ -24,7 +26,7 @@ class Case:
         if program == "board_judge":
             self.due = channel.judged(pins or b"", board or b"")
         else:
-            self.due = {"listing": channel.listing, "board_writer": channel.board}[program](pins)
+            self.due = DUE[program](pins)
 
     def run(self):
         """What the program writes, or how it ended if it failed."""
@@ -36,7 +38,7 @@ class Case:
             return b"ended with status %d" % failure.returncode
 
     def number(self):
-        """The number after REFUSED, or None for a listing, a board or a good one."""
+        """The number after REFUSED, or None for a listing, a board, a good one, a ring or none."""
         match = re.match(rb"REFUSED (\d+) ", self.due)
         return int(match.group(1)) if match else None
 
@@ -53,22 +55,23 @@ def shown_file(name, data):
     return f"{name}: absent" if data is None else f"{name}: {len(data)} bytes {data.hex()}"
 
 
-def both(texts):
-    return [Case(program, text) for text in texts for program in ("listing", "board_writer")]
+def each(texts):
+    """The cases of the programs that read a pin list alone."""
+    return [Case(program, text) for text in texts for program in DUE]
 
 
 def text_job(rng):
     """Narrow channels, refused rows, and texts with slips."""
     for _ in range(45):
-        yield from both([random_texts.drawn(rng, *random_channels.escaping(rng))])
-        yield from both([random_texts.typed(rng, *random_channels.escaping(rng))])
+        yield from each([random_texts.drawn(rng, *random_channels.escaping(rng))])
+        yield from each([random_texts.typed(rng, *random_channels.escaping(rng))])
     for _ in range(15):
-        yield from both([random_texts.typed(rng, *random_channels.refused(rng)), random_texts.noise(rng)])
+        yield from each([random_texts.typed(rng, *random_channels.refused(rng)), random_texts.noise(rng)])
 
 
 def bench_job(_):
     """The papers' examples, faults H to J of A among them, and boards with parked pins."""
-    yield from both(text for text, _ in examples.LISTED.values())
+    yield from each(text for text, _ in examples.LISTED.values())
     width, tracks, pieces = channel.open_board(channel.board(examples.A))
     for changed in (pieces, pieces[:7] + pieces[8:], pieces[:3] + [(1, 2, 1, 3)] + pieces[4:], pieces + [(0, 2, 3, 4)]):
         yield Case("board_judge", examples.A, channel.encode(width, tracks, changed))
@@ -76,24 +79,33 @@ def bench_job(_):
     yield Case("board_judge", examples.L, channel.board(examples.L))
     yield Case("board_judge", examples.A, channel.encode(width, tracks, pieces + [(3, 1, 1, 2)]))
     yield Case("board_judge", examples.A, channel.encode(width + 1, tracks, pieces))
-    yield from both(text_cases.text(*rows) for rows in row_cases.PARKED)
+    yield from each(text_cases.text(*rows) for rows in row_cases.PARKED)
     for top, bot, tracks, pieces in row_cases.PARKED_BOARDS:
         yield Case("board_judge", text_cases.text(top, bot), channel.encode(len(top), tracks, pieces))
 
 
 def wide_job(rng):
     for _ in range(15):
-        yield from both([random_texts.typed(rng, *random_channels.wide(rng))])
+        yield from each([random_texts.typed(rng, *random_channels.wide(rng))])
     most = row_cases.chained(511), row_cases.ring(255, 100), ([0] * 512, [0] * 512), ([0] * 513, [0] * 513)
     parked = row_cases.crowded(), ([*range(1, 512), 0], [0] * 512)
-    yield from both(text_cases.text(*rows) for rows in most + parked)
+    yield from each(text_cases.text(*rows) for rows in most + parked)
+
+
+def ring_job(rng):
+    """Channels with several rings."""
+    for _ in range(30):
+        yield Case("ring_finder", random_texts.typed(rng, *ring_channels.drawn(rng)))
+    yield from (Case("ring_finder", text_cases.text(top, bot)) for top, bot, _ in ring_channels.BY_HAND)
+    yield from (Case("ring_finder", text_cases.text(*rows)) for rows in ring_channels.large(rng))
 
 
 def long_job(_):
     """Texts about the limit, and none."""
-    yield from both([b""])
+    yield from each([b""])
     yield from (Case("listing", text) for text in random_texts.long_texts())
-    yield from (Case("board_writer", text) for text in list(random_texts.long_texts())[::5])
+    for program in ("board_writer", "ring_finder"):
+        yield from (Case(program, text) for text in list(random_texts.long_texts())[::5])
 
 
 def board_job(rng):
@@ -133,7 +145,7 @@ def file_job(rng):
     yield Case("board_judge", text, channel.encode(4, 2, full) + bytes(rng.randint(1, 9)))
 
 
-JOBS = ((long_job, 1), (wide_job, 1), (file_job, 1), (bench_job, 1), (board_job, 2), (text_job, 2))
+JOBS = ((long_job, 1), (wide_job, 1), (file_job, 1), (bench_job, 1), (board_job, 2), (text_job, 2), (ring_job, 1))
 
 
 def jobs(seed):

@@ -14,6 +14,8 @@ import own_checks
 import parked_checks
 import program_cases
 import random_boards
+import ring_channels
+import ring_checks
 import small_channels
 import text_cases
 import turned_checks
@@ -34,6 +36,11 @@ WRONG_OWN = ("EQUAL", "FALLING", "ZERO", "HIGH", "CUT", "CUT_TRACKS", "LONG", "S
              "LARGEST", "ABOVE", "BAD_FIRST", "BARE_FIRST", "LAST", "NO_TRACKS")
 # The wrong judges of wrong_sweep.c: the boards made to hurt a sweep tell each, those made by hand and those drawn.
 WRONG_SWEEPS = ("FORGETS", "TRUNKS", "BRANCHES", "BESIDE", "STARTS", "CONTACTS", "POINTS", "EDGE", "BARE", "LAST")
+# The wrong entries of wrong_rings.c: the cases of both jobs with rings tell each, and so do all rings of small
+# channels, but for the order of refusals and a buffer that is too short.
+WRONG_RINGS = ("WALK", "HIGHEST_COLUMN", "HIGHEST_NET", "NO_PAIR", "TURNED", "ENDS", "LONGER", "TOUCHED", "ROOM",
+               "LATE")
+NOT_SMALL = ("ROOM", "LATE")
 # Forms that get Req 01 wrong: what they take before a number, and at the end of a line.
 WRONG_FORMS = {
     "no runs of spaces": (b" ", rb"\r?\n"), "tabs": (rb"[ \t]+", rb"\r?\n"), "no carriage return": (b" +", rb"\n"),
@@ -56,7 +63,7 @@ def wrong_dues(cases, answers, first_difference):
 
 
 def program_faults(first_difference):
-    inputs = (("listing",), ("board_writer",), ("board_judge", FILE), ("board_judge", None))
+    inputs = (("listing",), ("board_writer",), ("board_judge", FILE), ("board_judge", None), ("ring_finder",))
     cases = [program_cases.Case(program, text_cases.GOOD, *board) for program, *board in inputs]
     if PINS not in cases[0].shown() or FILE.hex() not in cases[2].shown():
         yield "a program's input is not shown"
@@ -66,13 +73,13 @@ def program_faults(first_difference):
 def entry_questions():
     return [batch.read(text_cases.GOOD), batch.bounds(*ROWS), batch.route(*ROWS), batch.judge(*ROWS, FILE),
             batch.blank(9), batch.looks(*ROWS), batch.ceiling(*ROWS), batch.own_blank([8, 12], 9),
-            batch.route([1, 2], [2, 1])]
+            batch.fewest_ring(*ROWS), batch.route([1, 2], [2, 1]), batch.fewest_ring([1, 2], [2, 1])]
 
 
 def entry_faults(first_difference):
     cases = entry_questions()
     shown = [case.shown() for case in cases]
-    if any(PINS not in shown[i] for i in (1, 2, 3, 5, 6)) or FILE.hex() not in shown[3] or "8 12" not in shown[7]:
+    if any(PINS not in shown[i] for i in (1, 2, 3, 5, 6, 8)) or FILE.hex() not in shown[3] or "8 12" not in shown[7]:
         yield "an entry's input is not shown"
     yield from wrong_dues(cases, batch.answers([case.question for case in cases]), first_difference)
     missing = batch.answers([cases[0].question, b"\x09" + bytes(batch.HEADER.size - 1), cases[1].question])
@@ -86,8 +93,9 @@ def buffer_faults():
     batch.build(batch.ROOT / "reference" / "wrong_entries.c", program)
     due = ["0 1 top 0 kept bot 0 changed 2048 inputs kept", "0 0 inputs changed",
            "7 1 ring 1 2 changed 8 board changed -1 inputs kept", "0 2 scratch changed 20476 inputs kept",
-           "14 9 inputs kept", "0 1 inputs changed", "0 3 inputs changed", "16 9 inputs changed"]
-    for line, wanted in zip(batch.answers([case.question for case in entry_questions()[:8]], program), due):
+           "14 9 inputs kept", "0 1 inputs changed", "0 3 inputs changed", "16 9 inputs changed",
+           "0 1 ring 3 4 changed 8 inputs kept"]
+    for line, wanted in zip(batch.answers([case.question for case in entry_questions()[:9]], program), due):
         if line != wanted:
             yield f"a spoilt byte is told as '{line}', due '{wanted}'"
 
@@ -146,6 +154,25 @@ def looks_entry_faults(first_difference):
             yield f"the wrong entry {wrong} is not found on small channels"
         if wrong == "PARKED" and not any("removed" in fault for fault in found):
             yield f"the wrong entry {wrong} is not found where the parked pins are removed"
+
+
+def ring_entry_faults(first_difference):
+    """Entries that get the ring with the fewest nets wrong, on cases made by hand and as they are drawn, and by trying
+    all rings of small channels."""
+    small = [(top, bot) for top, bot, _ in ring_channels.BY_HAND] + [
+        tuple(map(list, shape)) for shape in small_channels.shapes(2)]
+    jobs = {job: entry_cases.made(("self-test", job, 0))[0] for job in ("fixed_job", "ring_job")}
+    program = batch.PROGRAM.with_name("batch_rings")
+    for wrong in ("NOTHING", *WRONG_RINGS):
+        batch.build(program=program, source="wrong_rings.c", flags=[f"-DWRONG={wrong}"])
+        found = {} if wrong in NOT_SMALL else {
+            "all rings of small channels": next(ring_checks.entry_differences(small, program), None)}
+        for job, cases in jobs.items():
+            asked = [case for case in cases if case.kind() == batch.FEWEST_RING]
+            found[job] = first_difference(asked, batch.answers([case.question for case in asked], program))
+        for name, told in found.items():
+            if (told is None) != (wrong == "NOTHING") or "no answer" in str(told):
+                yield f"the wrong entry {wrong} is not found by {name}, or a right one is called wrong: {told}"
 
 
 def own_faults():
@@ -299,16 +326,17 @@ def reader_faults(first_difference):
 
 def compare(first_difference, lacking):
     """The first fault of the comparison, or None; and what was tried, in words."""
-    faults = [*form_checks.faults(), *looks_checks.faults(), *program_faults(first_difference),
+    faults = [*form_checks.faults(), *looks_checks.faults(), *ring_checks.faults(), *program_faults(first_difference),
               *entry_faults(first_difference), *buffer_faults(), *search_faults(),
               *parked_entry_faults(first_difference), *looks_entry_faults(first_difference),
-              *own_faults(), *own_entry_faults(first_difference), *sweep_entry_faults(first_difference),
-              *turned_faults(), *turned_entry_faults(),
+              *ring_entry_faults(first_difference), *own_faults(), *own_entry_faults(first_difference),
+              *sweep_entry_faults(first_difference), *turned_faults(), *turned_entry_faults(),
               *parked_record_faults(first_difference), *reader_faults(first_difference)]
     if lacking({1, 2}, {1, 2, 3}) is None or lacking({1, 2}, {1, 2}):
         faults.append("a number that is never answered is not told")
     return faults[0] if faults else None, (
-        "the form is as its states say, and looks as they are counted one by one; wrong answers of programs and"
-        " entries, spoilt buffers, a wrong search, readers that get spaces or line ends wrong, records, copper, steps,"
-        " density and a judge that get parked pins wrong, wrong looks and ceilings, wrong choices of own blanks,"
-        " judges that get a sweep of lines wrong, and what gets a board turned over wrong are found and shown")
+        "the form is as its states say, looks as they are counted one by one, and the ring with the fewest nets that of"
+        " all rings; wrong answers of programs and entries, spoilt buffers, a wrong search, readers that get spaces or"
+        " line ends wrong, records, copper, steps, density and a judge that get parked pins wrong, wrong looks and"
+        " ceilings, wrong rings, wrong choices of own blanks, judges that get a sweep of lines wrong, and what gets a"
+        " board turned over wrong are found and shown")

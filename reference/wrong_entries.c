@@ -66,6 +66,17 @@ uint64_t cabjirt_ceiling(const uint32_t *top, size_t top_length, const uint32_t 
     return told(0, 3);
 }
 
+/* A ring of one pair with a third number. */
+uint64_t cabjirt_fewest_ring(const uint32_t *top, size_t top_length, const uint32_t *bot, size_t bot_length,
+                             uint32_t *ring, size_t ring_length)
+{
+    (void)top, (void)top_length, (void)bot, (void)bot_length, (void)ring_length;
+    ring[0] = 3;
+    ring[1] = 4;
+    spoil(ring, 8);
+    return told(0, 1);
+}
+
 /* A changed table. */
 uint64_t cabjirt_own_blank(const uint32_t *table, size_t table_length, uint32_t tracks)
 {

@@ -53,6 +53,35 @@ static struct verdict route(struct answer *answer)
     return verdict;
 }
 
+/* Whether pairs are a ring of the rows: different nets from the lowest on, each at TOP of its column, where the next
+ * one is at BOT. */
+static bool is_ring(const struct answer *answer, const uint32_t *pairs, uint32_t count)
+{
+    bool met[CABJIRT_ROW] = {false}; /* by net, of which 511 is the highest */
+    for (uint32_t i = 0; i < count; i++) {
+        uint32_t net = pairs[2 * i], column = pairs[2 * i + 1], next = pairs[2 * (i + 1 < count ? i + 1 : 0)];
+        if (net < pairs[0] || net < 1 || net >= CABJIRT_ROW || net == next || met[net])
+            return false;
+        if (column < 1 || column > answer->width)
+            return false;
+        if (answer->rows[TOP_ROW][column - 1] != net || answer->rows[BOT_ROW][column - 1] != next)
+            return false;
+        met[net] = true;
+    }
+    return count > 0;
+}
+
+static void find_fewest_ring(struct answer *answer)
+{
+    struct fewest_ring *fewest = &answer->fewest;
+    uint64_t said = cabjirt_fewest_ring(answer->rows[TOP_ROW], answer->width, answer->rows[BOT_ROW], answer->width,
+                                        fewest->ring, CABJIRT_RING);
+    fewest->number = cabjirt_number(said);
+    fewest->count = cabjirt_value(said);
+    fewest->whole = fewest->number == 0 && fewest->count <= CABJIRT_RING / 2 &&
+                    fewest->count <= answer->verdict.place && is_ring(answer, fewest->ring, fewest->count);
+}
+
 void answer_pins(const struct pin_text *pins, struct answer *answer)
 {
     uint8_t text[TEXT_MOST];
@@ -67,11 +96,29 @@ void answer_pins(const struct pin_text *pins, struct answer *answer)
         answer->verdict = route(answer);
     if (!answer->verdict.refused)
         answer->verdict = verdict_of(cabjirt_blank(answer->tracks), &answer->blank);
+    else if (answer->verdict.number == 7)
+        find_fewest_ring(answer);
 }
 
 bool answer_has_rows(const struct answer *answer)
 {
     return !answer->verdict.refused || answer->verdict.number == 7;
+}
+
+bool answer_fewest_is_walk(const struct answer *answer)
+{
+    const struct fewest_ring *fewest = &answer->fewest;
+    uint32_t count = answer->verdict.place, from = 0;
+    if (!fewest->whole || fewest->count != count)
+        return false;
+    while (from < count && answer->ring[2 * from] != fewest->ring[0])
+        from++;
+    for (uint32_t i = 0; i < count; i++) {
+        uint32_t at = (from + i) % count;
+        if (answer->ring[2 * at] != fewest->ring[2 * i] || answer->ring[2 * at + 1] != fewest->ring[2 * i + 1])
+            return false;
+    }
+    return true;
 }
 
 size_t answer_board_length(const struct answer *answer)

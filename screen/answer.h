@@ -14,14 +14,23 @@ struct verdict {
     uint32_t number, place;
 };
 
-/* The answer to a pin list. Under refusal 7 the rows, the width, the bounds, the looks with their ceiling and the ring
- * hold; under another refusal none of them does. */
+/* What is answered of the ring with the fewest nets. It is whole if the pairs (net, column) are a ring of the rows that
+ * begins at its lowest net and has no more nets than the walk's; a tangled list has no other answer. */
+struct fewest_ring {
+    bool whole;
+    uint32_t number, count; /* the halves of the answer: 0, and the pairs of the ring */
+    uint32_t ring[CABJIRT_RING];
+};
+
+/* The answer to a pin list. Under refusal 7 the rows, the width, the bounds, the looks with their ceiling, the ring of
+ * the walk and the ring with the fewest nets hold; under another refusal none of them does. */
 struct answer {
     struct verdict verdict;
     uint32_t width, tracks, pieces, blank, density, chain;
     uint32_t looks, ceiling; /* the looks of the routing, and the most that so many nets take */
     uint32_t rows[ROWS][CABJIRT_ROW];
     uint32_t ring[CABJIRT_RING];
+    struct fewest_ring fewest;
     uint8_t board[CABJIRT_BOARD];
 };
 
@@ -29,6 +38,10 @@ void answer_pins(const struct pin_text *pins, struct answer *answer);
 
 /* Whether an answer has rows: its list was not refused, or only as tangled. */
 bool answer_has_rows(const struct answer *answer);
+
+/* Whether the ring with the fewest nets of a tangled list is whole and the walk's own: the same pairs, of which the
+ * walk may have begun at another. */
+bool answer_fewest_is_walk(const struct answer *answer);
 
 /* The bytes of the board file of a list that was not refused. */
 size_t answer_board_length(const struct answer *answer);

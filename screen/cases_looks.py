@@ -132,7 +132,8 @@ def windows(s):
     typed(s, C)
     s.resize(*SMALLEST)
     s.expect_lines("the ring in the smallest window", DRAWING, [
-        "  net 1 above net 2 in column 1", "  net 2 above net 1 in column 2", "", bar(2, 3, 40)])
+        "  net 1 above net 2 in column 1", "  net 2 above net 1 in column 2",
+        "  the fewest wires to move: 2 nets, the", bar(2, 3, 40)])
     s.resize(24, 80)
     s.type("x")
     s.expect_line("a tangled list and a message", MESSAGE, beside(ONLY_DIGITS, 2, 3, 80))

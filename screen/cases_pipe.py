@@ -33,7 +33,8 @@ def examples(folder):
     out, err, status = piped(folder, b"TOP 1 2\nBOT 2 1\nshow\n")
     check("piped C", out[:4] + [out[4][:11], out[5], out[6][:12]] + out[7:], [
         "    v v", "TOP 1 2", "BOT 2 1", "    ^ ^", "REFUSED 7 2", bar_of(([1, 2], [2, 1])), "What to do: ",
-        "net 1 above net 2 in column 1", "net 2 above net 1 in column 2"])
+        "net 1 above net 2 in column 1", "net 2 above net 1 in column 2",
+        "the fewest wires to move: 2 nets, the same ring"])
     check("piped C: status", status, 1)
     (folder / "b.pins").write_bytes(b)
     out, err, status = piped(folder, b"load b.pins\nsave new\nsave-pins new.pins\nshow\nquit\nshow\n")

@@ -80,7 +80,7 @@ def more_refusals(s):
     s.expect_line("C: marks over TOP", TOP_MARKS, columns(1, 2, sign="v"))
     s.expect_line("C: marks under BOT", BOT_MARKS, columns(1, 2, sign="^"))
     s.expect_lines("C: ring", DRAWING, ["  net 1 above net 2 in column 1", "  net 2 above net 1 in column 2"])
-    s.expect_start("C: what to do", DRAWING + 3, "  What to do: move or exchange a pin in one column of the ring")
+    s.expect_start("C: what to do", DRAWING + 4, "  What to do: move or exchange a pin in one column of the ring")
     fill(s, "1 2 3 1", "2 3 2 0")
     s.expect_start("D", VERDICT, "REFUSED 7 2  the channel is tangled:")
     s.expect_line("D: marks over TOP", TOP_MARKS, columns(2, 3, sign="v"))

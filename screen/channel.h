@@ -80,6 +80,14 @@ uint64_t cabjirt_bounds(const uint32_t *top, size_t top_length, const uint32_t *
 uint64_t cabjirt_route(const uint32_t *top, size_t top_length, const uint32_t *bot, size_t bot_length, uint32_t *ring,
                        size_t ring_length, uint8_t *board, size_t board_length);
 
+/* The ring with the fewest nets: the fewest wires to move in a tangled channel. A ring is a list of different nets,
+ * each above the next in a named column, and the last above the first; cabjirt_route shows one under 7, which may be
+ * longer. Of rings with as many nets it is the one whose numbers are the lowest, net, column, net, column and so on,
+ * each ring begun at its lowest net. Value: the number of pairs (net, column) at the front of the ring, the rest stay;
+ * 0 for none, exactly if the channel has no ring, and then the whole ring stays. Refusals 1 and 3 to 5. */
+uint64_t cabjirt_fewest_ring(const uint32_t *top, size_t top_length, const uint32_t *bot, size_t bot_length,
+                             uint32_t *ring, size_t ring_length);
+
 /* How many looks the routing of a channel takes, tangled or not: the fill scans the nets not placed yet once for each
  * track, and each net of each scan is a look, the last scan of a tangled channel, which places none, included. Value:
  * the looks, never above the ceiling. Refusals 3 to 5. */

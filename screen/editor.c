@@ -88,14 +88,19 @@ static const struct mark *nearer(const struct mark *near, const struct mark *mar
     return near;
 }
 
+/* The first mark of all that does not stand before a place, or NULL. */
+static const struct mark *first_mark(const struct finding *finding, const struct parked *parked, int row, size_t cell)
+{
+    const struct mark *to = nearer(NULL, finding->marks.at, finding->marks.count, row, cell);
+    to = nearer(to, finding->fewest.at, finding->fewest.count, row, cell);
+    return nearer(to, parked->marks, parked->count, row, cell);
+}
+
 void editor_to_mark(struct editor *editor, const struct finding *finding, const struct parked *parked)
 {
-    const struct mark *to = nearer(NULL, finding->marks, finding->mark_count, editor->row, editor->cell + 1);
-    to = nearer(to, parked->marks, parked->count, editor->row, editor->cell + 1);
-    if (to == NULL) {
-        to = nearer(NULL, finding->marks, finding->mark_count, TOP_ROW, 0);
-        to = nearer(to, parked->marks, parked->count, TOP_ROW, 0);
-    }
+    const struct mark *to = first_mark(finding, parked, editor->row, editor->cell + 1);
+    if (to == NULL)
+        to = first_mark(finding, parked, TOP_ROW, 0);
     if (to == NULL)
         return;
     editor->row = to->row;

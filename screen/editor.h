@@ -19,7 +19,7 @@ enum edit editor_key(struct editor *editor, struct pin_text *pins, int key);
 /* Puts the cursor into the rows again after they were replaced. */
 void editor_clamp(struct editor *editor, const struct pin_text *pins);
 
-/* Goes to the next mark after the cursor, of a refusal or of a parked pin, or to the first of all. */
+/* Goes to the next mark after the cursor, of a refusal, a ring or a parked pin, or to the first of all. */
 void editor_to_mark(struct editor *editor, const struct finding *finding, const struct parked *parked);
 
 #endif

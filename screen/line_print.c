@@ -10,22 +10,27 @@ char printable(uint8_t byte)
     return byte >= 0x20 && byte <= 0x7E ? (char)byte : '?';
 }
 
+/* Puts a sign at the cells of a row's marks; F where the fewest ring's is there already. */
+static void put_signs(char *signs, const struct marks *marks, int row, char sign)
+{
+    for (size_t i = 0; i < marks->count; i++)
+        if (marks->at[i].row == row)
+            for (size_t cell = ROW_LABEL + marks->at[i].first; cell <= ROW_LABEL + marks->at[i].last; cell++)
+                signs[cell] = signs[cell] == 'f' ? 'F' : sign;
+}
+
 /* A line of signs at the cells of a row: those of a refusal stand over those of parked pins. */
 static void print_row_marks(const struct order *order, int row, char sign)
 {
     char signs[ROW_LABEL + ROW_LIMIT + 1];
     const struct parked *parked = &order->parked;
-    const struct finding *finding = &order->finding;
     size_t end = sizeof signs;
     memset(signs, ' ', sizeof signs);
     for (size_t i = 0; i < parked->count; i++)
         if (parked->marks[i].row == row)
             signs[ROW_LABEL + parked->marks[i].last] = 'p';
-    for (size_t i = 0; i < finding->mark_count; i++) {
-        const struct mark *mark = &finding->marks[i];
-        if (mark->row == row)
-            memset(signs + ROW_LABEL + mark->first, sign, mark->last - mark->first + 1);
-    }
+    put_signs(signs, &order->finding.fewest, row, 'f');
+    put_signs(signs, &order->finding.marks, row, sign);
     while (end > 0 && signs[end - 1] == ' ')
         end--;
     if (end > 0)
@@ -86,13 +91,24 @@ static void print_drawing(const struct board_view *view)
     print_position_mark(view, false, '^');
 }
 
-static void print_ring(const struct answer *answer)
+static void print_ring(const uint32_t *ring, uint32_t count)
 {
     char words[WORDS_MOST];
-    for (uint32_t pair = 0; pair < answer->verdict.place; pair++) {
-        ring_words(answer, pair, words);
+    for (uint32_t pair = 0; pair < count; pair++) {
+        ring_words(ring, count, pair, words);
         printf("%s\n", words);
     }
+}
+
+/* The ring of the walk, and the one with the fewest nets. */
+static void print_rings(const struct answer *answer)
+{
+    char words[WORDS_MOST];
+    print_ring(answer->ring, answer->verdict.place);
+    bool other = fewest_words(answer, words);
+    printf("%s\n", words);
+    if (other)
+        print_ring(answer->fewest.ring, answer->fewest.count);
 }
 
 static void print_looks(const struct order *order)
@@ -138,7 +154,7 @@ bool print_order(const struct order *order)
     if (text[0] != '\0')
         printf("%s\n", text);
     if (!order->judged.shown && verdict->refused && verdict->number == 7)
-        print_ring(&order->answer);
+        print_rings(&order->answer);
     if (order_view(order, &view)) {
         board_view_piece_words(&view, view.marked_piece, words);
         if (words[0] != '\0')

@@ -7,7 +7,7 @@
 /* A byte as it may be printed. */
 char printable(uint8_t byte);
 
-/* The list with its marks, the verdict, what is told of a laminate, looks and parked pins, what to do, and the ring or
+/* The list with its marks, the verdict, what is told of a laminate, looks and parked pins, what to do, and the rings or
  * the board. Answers whether nothing is refused. */
 bool print_order(const struct order *order);
 

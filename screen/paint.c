@@ -49,6 +49,7 @@ void paint_glyph(int y, int x, wchar_t glyph, enum style style)
         [STYLE_CROSSING] = {A_DIM, PAIR_NONE}, [STYLE_PIN] = {A_BOLD, PAIR_NONE},
         [STYLE_PARKED] = {A_NORMAL, PAIR_MAGENTA}, [STYLE_GOOD] = {A_BOLD, PAIR_GREEN},
         [STYLE_BAD] = {A_BOLD, PAIR_RED}, [STYLE_MARK] = {A_BOLD | A_REVERSE, PAIR_RED},
+        [STYLE_FEWEST] = {A_BOLD, PAIR_YELLOW}, [STYLE_FEWEST_MARK] = {A_BOLD | A_REVERSE, PAIR_YELLOW},
     };
     const wchar_t text[] = {glyph, L'\0'};
     cchar_t cell;
@@ -97,13 +98,19 @@ static size_t line_bytes(const char *text, int cells)
 
 int paint_lines(int y, int end, int x, const char *text, enum style style)
 {
+    return paint_lines_from(y, y, end, x, text, style);
+}
+
+int paint_lines_from(int first, int y, int end, int x, const char *text, enum style style)
+{
     int cells = paint_across() - x;
     for (; *text != '\0' && y < end && cells > 0; y++) {
         size_t bytes = line_bytes(text, cells);
         for (int at = x; bytes > 0; at++) {
             size_t taken;
             wchar_t glyph = next_character(text, &taken);
-            paint_glyph(y, at, glyph, style);
+            if (y >= first)
+                paint_glyph(y, at, glyph, style);
             text += taken;
             bytes -= taken;
         }

@@ -8,7 +8,7 @@
 
 enum style {
     STYLE_PLAIN, STYLE_DIM, STYLE_STRONG, STYLE_BAR, STYLE_TRUNK, STYLE_BRANCH, STYLE_CONTACT, STYLE_CROSSING,
-    STYLE_PIN, STYLE_PARKED, STYLE_GOOD, STYLE_BAD, STYLE_MARK, STYLES
+    STYLE_PIN, STYLE_PARKED, STYLE_GOOD, STYLE_BAD, STYLE_MARK, STYLE_FEWEST, STYLE_FEWEST_MARK, STYLES
 };
 
 /* Takes up the terminal's colours, unless NO_COLOR is set. */
@@ -29,6 +29,9 @@ int paint_text(int y, int x, int end, const char *text, enum style style);
 
 /* Puts a text into lines y up to `end`, from cell x on, broken between words; answers the line after it. */
 int paint_lines(int y, int end, int x, const char *text, enum style style);
+
+/* The same, but the lines before `first` are left as they are. */
+int paint_lines_from(int first, int y, int end, int x, const char *text, enum style style);
 
 /* Fills a line with a style. */
 void paint_bar(int y, enum style style);

@@ -36,16 +36,16 @@ static void put_place(char words[WORDS_MOST], const char *text, uint32_t place)
     words[length] = '\0';
 }
 
-static void add_mark(struct finding *finding, int row, size_t column, size_t first, size_t last)
+static void add_mark(struct marks *marks, int row, size_t column, size_t first, size_t last)
 {
-    if (finding->mark_count < MARKS_MOST)
-        finding->marks[finding->mark_count++] = (struct mark){row, column, first, last};
+    if (marks->count < MARKS_MOST)
+        marks->at[marks->count++] = (struct mark){row, column, first, last};
 }
 
-static void mark_number(struct finding *finding, const struct row_numbers *numbers, int row, size_t column)
+static void mark_number(struct marks *marks, const struct row_numbers *numbers, int row, size_t column)
 {
     if (column >= 1 && column <= numbers[row].count && column <= NUMBERS_MOST)
-        add_mark(finding, row, column, numbers[row].first[column - 1], numbers[row].last[column - 1]);
+        add_mark(marks, row, column, numbers[row].first[column - 1], numbers[row].last[column - 1]);
 }
 
 /* What stands at a row's end does not belong there if a number is due, or if it is a second carriage return. */
@@ -55,7 +55,7 @@ static void find_garbled(const struct pin_text *pins, uint32_t offset, struct fi
     const struct row_text *row = &pins->rows[at.row];
     size_t column = row_word_at(row, at.cell).column;
     bool after_return = at.cell > 0 && row->bytes[at.cell - 1] == '\r';
-    add_mark(finding, at.row, column, at.cell, at.cell);
+    add_mark(&finding->marks, at.row, column, at.cell, at.cell);
     if (at.cell == row->length && !after_return)
         snprintf(finding->where, WORDS_MOST, "%s column %zu: the row ends where a number is due", row_names[at.row],
                  column);
@@ -67,8 +67,8 @@ static void find_garbled(const struct pin_text *pins, uint32_t offset, struct fi
 static void find_too_wide(const struct row_numbers *numbers, uint32_t column, struct finding *finding)
 {
     snprintf(finding->where, WORDS_MOST, "TOP has %zu, BOT %zu", numbers[TOP_ROW].count, numbers[BOT_ROW].count);
-    mark_number(finding, numbers, TOP_ROW, column);
-    mark_number(finding, numbers, BOT_ROW, column);
+    mark_number(&finding->marks, numbers, TOP_ROW, column);
+    mark_number(&finding->marks, numbers, BOT_ROW, column);
 }
 
 static void find_uneven(const struct pin_text *pins, const struct row_numbers *numbers, uint32_t column,
@@ -77,8 +77,8 @@ static void find_uneven(const struct pin_text *pins, const struct row_numbers *n
     int shorter = numbers[TOP_ROW].count < numbers[BOT_ROW].count ? TOP_ROW : BOT_ROW;
     size_t end = pins->rows[shorter].length;
     snprintf(finding->where, WORDS_MOST, "TOP has %zu, BOT %zu", numbers[TOP_ROW].count, numbers[BOT_ROW].count);
-    add_mark(finding, shorter, column, end, end);
-    mark_number(finding, numbers, 1 - shorter, column);
+    add_mark(&finding->marks, shorter, column, end, end);
+    mark_number(&finding->marks, numbers, 1 - shorter, column);
 }
 
 /* Marks a pin position. The rows are even wherever a position is given. */
@@ -88,21 +88,41 @@ static void find_position(const struct row_numbers *numbers, uint32_t position, 
     int row = position <= width ? TOP_ROW : BOT_ROW;
     size_t column = row == TOP_ROW ? position : position - width;
     snprintf(finding->where, WORDS_MOST, "%s column %zu", row_names[row], column);
-    mark_number(finding, numbers, row, column);
+    mark_number(&finding->marks, numbers, row, column);
 }
 
-static void find_ring(const struct row_numbers *numbers, const struct answer *answer, struct finding *finding)
+/* Marks the two numbers of each column of a ring. */
+static void mark_ring(struct marks *marks, const struct row_numbers *numbers, const uint32_t *ring, uint32_t count)
 {
     for (int r = 0; r < ROWS; r++)
-        for (uint32_t i = 0; i < answer->verdict.place && i < CABJIRT_RING / 2; i++)
-            mark_number(finding, numbers, r, answer->ring[2 * i + 1]);
+        for (uint32_t i = 0; i < count && i < CABJIRT_RING / 2; i++)
+            mark_number(marks, numbers, r, ring[2 * i + 1]);
 }
 
-void ring_words(const struct answer *answer, uint32_t pair, char words[WORDS_MOST])
+static void find_rings(const struct row_numbers *numbers, const struct answer *answer, struct finding *finding)
 {
-    uint32_t next = pair + 1 < answer->verdict.place ? pair + 1 : 0;
-    snprintf(words, WORDS_MOST, "net %u above net %u in column %u", answer->ring[2 * pair], answer->ring[2 * next],
-             answer->ring[2 * pair + 1]);
+    mark_ring(&finding->marks, numbers, answer->ring, answer->verdict.place);
+    if (answer->fewest.whole && !answer_fewest_is_walk(answer))
+        mark_ring(&finding->fewest, numbers, answer->fewest.ring, answer->fewest.count);
+}
+
+void ring_words(const uint32_t *ring, uint32_t count, uint32_t pair, char words[WORDS_MOST])
+{
+    uint32_t next = pair + 1 < count ? pair + 1 : 0;
+    snprintf(words, WORDS_MOST, "net %u above net %u in column %u", ring[2 * pair], ring[2 * next], ring[2 * pair + 1]);
+}
+
+bool fewest_words(const struct answer *answer, char words[WORDS_MOST])
+{
+    const struct fewest_ring *fewest = &answer->fewest;
+    bool other = fewest->whole && !answer_fewest_is_walk(answer);
+    if (fewest->whole)
+        snprintf(words, WORDS_MOST, "the fewest wires to move: %u nets%s", fewest->count,
+                 other ? "" : ", the same ring");
+    else
+        snprintf(words, WORDS_MOST, "the fewest wires to move are not known: the library answered number %u, value %u, "
+                 "which is no ring of this list", fewest->number, fewest->count);
+    return other;
 }
 
 static void find_place(const struct pin_text *pins, const struct answer *answer, const struct verdict *verdict,
@@ -116,7 +136,7 @@ static void find_place(const struct pin_text *pins, const struct answer *answer,
     case 3: find_too_wide(numbers, verdict->place, finding); break;
     case 4: find_uneven(pins, numbers, verdict->place, finding); break;
     case 5: case 11: case 12: find_position(numbers, verdict->place, finding); break;
-    case 7: find_ring(numbers, answer, finding); break;
+    case 7: find_rings(numbers, answer, finding); break;
     case 10: snprintf(finding->where, WORDS_MOST, "which is %u wide", answer->width); break;
     default: break;
     }
@@ -125,7 +145,7 @@ static void find_place(const struct pin_text *pins, const struct answer *answer,
 void refusal_explain(const struct pin_text *pins, const struct answer *answer, const struct verdict *verdict,
                      struct finding *finding)
 {
-    finding->mark_count = 0;
+    finding->marks.count = finding->fewest.count = 0;
     finding->meaning[0] = finding->where[0] = finding->remedy[0] = '\0';
     if (!verdict->refused)
         return;

@@ -26,14 +26,14 @@ bool screen_shows_cursor(const struct screen *screen)
 static void cut_scrolls(struct screen *screen, const struct board_view *view)
 {
     bool ring = order_verdict(screen->order)->number == 7;
-    size_t words = ring ? screen->order->answer.verdict.place + REMEDY_LINES : 0;
+    size_t words = ring ? view_ring_lines(screen->order) : 0;
     size_t whole = view != NULL ? board_view_lines(view) : words;
     screen->scroll_across = view_cut(screen->scroll_across, view_whole(screen, view), view_cells());
     screen->scroll_across = screen->scroll_across / COLUMN_CELLS * COLUMN_CELLS;
     screen->scroll_down = view_cut(screen->scroll_down, whole, view_lines());
 }
 
-/* The place below the rows: the board, the ring of a tangled list, or words. */
+/* The place below the rows: the board, the rings of a tangled list, or words. */
 static void paint_below(const struct screen *screen, const struct board_view *view)
 {
     const struct order *order = screen->order;

@@ -178,6 +178,50 @@ static void looking(void)
     looking_down_a_chain();
 }
 
+/* The ring with the fewest nets of a list: its pairs, and what it leaves of the ring. */
+static void expect_ring(const char *what, const char *text, const uint32_t *pairs, uint32_t count)
+{
+    uint32_t width = cabjirt_value(read_text(text));
+    memset(ring, 0x55, sizeof ring);
+    memset(before, 0x55, sizeof before);
+    if (count != 0)
+        memcpy(before, pairs, 2 * count * sizeof *pairs);
+    expect(what, cabjirt_fewest_ring(top, width, bot, width, ring, CABJIRT_RING), 0, count);
+    expect_same(what, ring, before, sizeof ring);
+}
+
+static void finding_rings(void)
+{
+    static const uint32_t over[] = {1, 2, 600}, under[] = {2, 1, 0};
+    expect_ring("no ring in A", "TOP 0 1 2 3\nBOT 1 2 0 3\n", NULL, 0);
+    expect_ring("the fewest of C", "TOP 1 2\nBOT 2 1\n", (const uint32_t[]){1, 1, 2, 2}, 2);
+    expect_ring("the fewest of D", "TOP 1 2 3 1\nBOT 2 3 2 0\n", (const uint32_t[]){2, 2, 3, 3}, 2);
+    expect_ring("fewer than the walk", "TOP 1 2 3 4 2\nBOT 2 3 4 1 1\n", (const uint32_t[]){1, 1, 2, 5}, 2);
+    expect_ring("a tie by column", "TOP 1 1 2 2\nBOT 2 2 1 1\n", (const uint32_t[]){1, 1, 2, 3}, 2);
+    expect_ring("a tie by net", "TOP 3 4 1 2\nBOT 4 3 2 1\n", (const uint32_t[]){1, 3, 2, 4}, 2);
+    expect_ring("parked pins are on none", "TOP 1 2 3\nBOT 2 3 4\n", NULL, 0);
+    memset(ring, 0x55, sizeof ring);
+    memset(before, 0x55, sizeof before);
+    expect("a short ring", cabjirt_fewest_ring(over, 2, under, 2, ring, CABJIRT_RING - 1), 1, CABJIRT_RING);
+    expect("a short ring, high net", cabjirt_fewest_ring(over, 3, under, 3, NULL, 0), 1, CABJIRT_RING);
+    expect("uneven", cabjirt_fewest_ring(over, 2, under, 1, ring, CABJIRT_RING), 4, 2);
+    expect("high net", cabjirt_fewest_ring(over, 3, under, 3, ring, CABJIRT_RING), 5, 3);
+    expect("no rows", cabjirt_fewest_ring(NULL, 0, NULL, 0, ring, CABJIRT_RING), 4, 1);
+    expect_same("the ring after refusals", ring, before, sizeof ring);
+}
+
+/* The largest ring, of 511 nets. */
+static void finding_the_largest(void)
+{
+    uint32_t over[511], under[511], pairs[CABJIRT_RING];
+    for (uint32_t i = 0; i < 511; i++) {
+        over[i] = pairs[2 * i] = pairs[2 * i + 1] = i + 1;
+        under[i] = i < 510 ? i + 2 : 1;
+    }
+    expect("a ring of 511", cabjirt_fewest_ring(over, 511, under, 511, ring, CABJIRT_RING), 0, 511);
+    expect_same("its pairs", ring, pairs, sizeof pairs);
+}
+
 static void blanks(void)
 {
     expect("blank 0", cabjirt_blank(0), 0, 8);
@@ -228,6 +272,8 @@ int main(void)
     reading();
     routing();
     judging();
+    finding_rings();
+    finding_the_largest();
     parking();
     looking();
     blanks();

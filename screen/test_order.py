@@ -21,6 +21,7 @@ import cases_looks  # noqa: E402
 import cases_padded  # noqa: E402
 import cases_parked  # noqa: E402
 import cases_pipe  # noqa: E402
+import cases_rings  # noqa: E402
 import cases_turned  # noqa: E402
 import cases_typing  # noqa: E402
 import cases_window  # noqa: E402
@@ -30,7 +31,8 @@ import pseudo_terminal  # noqa: E402
 def main():
     try:
         for cases in (cases_build, cases_typing, cases_files, cases_window, cases_pipe, cases_parked, cases_padded,
-                      cases_line_ends, cases_looks, cases_turned, cases_laminate, cases_laminate_pipe):
+                      cases_line_ends, cases_looks, cases_turned, cases_laminate, cases_laminate_pipe,
+                      cases_rings):
             with tempfile.TemporaryDirectory() as name:
                 cases.run(Path(name))
     except (pseudo_terminal.Failure, subprocess.TimeoutExpired) as failure:

@@ -74,16 +74,3 @@ void view_drawing(const struct screen *screen, const struct board_view *view)
             put_board_cell(y, GUTTER + (int)x, &cells[x]);
     }
 }
-
-void view_ring(const struct screen *screen)
-{
-    char words[WORDS_MOST], remedy[MESSAGE_MOST];
-    const struct answer *answer = &screen->order->answer;
-    int y = LINE_DRAWING, end = LINE_DRAWING + (int)view_lines();
-    for (size_t pair = screen->scroll_down; y < end && pair < answer->verdict.place; pair++) {
-        ring_words(answer, (uint32_t)pair, words);
-        paint_text(y++, 2, paint_across(), words, STYLE_PLAIN);
-    }
-    order_remedy(screen->order, remedy);
-    paint_lines(y + 1, end, 2, remedy, STYLE_PLAIN);
-}

@@ -22,18 +22,24 @@ static bool has_marks(const struct order *order)
     return order->judged.shown || !pin_text_empty(&order->pins);
 }
 
+static bool is_marked(const struct order *order, const struct marks *marks, int row, size_t cell)
+{
+    return has_marks(order) && mark_at(marks->at, marks->count, row, cell) != NULL;
+}
+
 static void put_cell(const struct screen *screen, int row, int y, int marks_y, size_t cell, size_t x)
 {
     const struct order *order = screen->order;
     const struct row_text *text = &order->pins.rows[row];
-    const struct finding *finding = &order->finding;
     const struct mark *parked = mark_at(order->parked.marks, order->parked.count, row, cell);
     uint8_t byte = cell < text->length ? text->bytes[cell] : ' ';
-    bool marked = has_marks(order) && mark_at(finding->marks, finding->mark_count, row, cell) != NULL;
-    bool shows = byte >= 0x20 && byte <= 0x7E;
+    bool marked = is_marked(order, &order->finding.marks, row, cell);
+    bool fewest = is_marked(order, &order->finding.fewest, row, cell), shows = byte >= 0x20 && byte <= 0x7E;
     enum style style = parked != NULL ? STYLE_PARKED : shows ? STYLE_PLAIN : STYLE_BAD;
-    put(screen, y, x, shows ? byte : L'?', marked ? STYLE_MARK : style);
-    if (marked)
+    put(screen, y, x, shows ? byte : L'?', marked ? STYLE_MARK : fewest ? STYLE_FEWEST_MARK : style);
+    if (fewest)
+        put(screen, marks_y, x, marked ? L'F' : L'f', STYLE_FEWEST);
+    else if (marked)
         put(screen, marks_y, x, row == TOP_ROW ? L'v' : L'^', STYLE_BAD);
     else if (parked != NULL && cell == parked->last)
         put(screen, marks_y, x, L'p', STYLE_PARKED);
@@ -86,8 +92,12 @@ void view_row(const struct screen *screen, int row, int y, int marks_y)
         put_signs(screen, y, columns_x(&screen->columns, text, 0), columns_x(&screen->columns, text, text->length - 1),
                   STYLE_DIM);
     put_mark_signs(screen, order->parked.marks, order->parked.count, row, marks_y, STYLE_PARKED);
-    if (has_marks(order)) /* over those of parked pins */
-        put_mark_signs(screen, order->finding.marks, order->finding.mark_count, row, marks_y, STYLE_BAD);
+    if (!has_marks(order))
+        return;
+    const struct marks *marks = &order->finding.marks, *fewest = &order->finding.fewest;
+    /* over those of parked pins */
+    put_mark_signs(screen, fewest->at, fewest->count, row, marks_y, STYLE_FEWEST);
+    put_mark_signs(screen, marks->at, marks->count, row, marks_y, STYLE_BAD);
 }
 
 /* The number of a column at its right. Numbers of more than three digits stand over every other column. */

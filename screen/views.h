@@ -9,8 +9,7 @@
  * drawing have the same columns, and scroll together. */
 enum {
     LINE_TITLE, LINE_VERDICT, LINE_RULER = LINE_VERDICT + 3, LINE_TOP_MARKS, LINE_TOP, LINE_BOT, LINE_BOT_MARKS,
-    LINE_DRAWING, BOTTOM_LINES = 2,
-    REMEDY_LINES = 6 /* after a ring: what to do about it, at most so long */
+    LINE_DRAWING, BOTTOM_LINES = 2
 };
 
 /* The lines of the drawing; the cells of rows and drawing, in fours as columns are: half a number would be another
@@ -37,6 +36,10 @@ void view_drawing(const struct screen *screen, const struct board_view *view);
 void view_ring(const struct screen *screen);
 void view_hints(const struct screen *screen);
 void view_choices(const struct screen *screen);
+
+/* The lines of the walk's ring and of the ring with the fewest nets, which stand beside each other if there is room,
+ * and of the words after them. */
+size_t view_ring_lines(const struct order *order);
 
 /* The help from an entry on; answers the entry that the next page begins with, or 0 if there is none. */
 size_t view_help(size_t first);

@@ -23,7 +23,7 @@ for name; do
     fi
 done
 """
-CRATES = "lists:\nother: lists\nlisting: lists io\nboard_writer: lists\nboard_judge: lists other\n"
+CRATES = "lists:\nother: lists\nlisting: lists io\nboard_writer: lists\nboard_judge: lists other\nring_finder: lists\n"
 
 
 class Sources(Workshop):

@@ -4,7 +4,7 @@ import subprocess
 
 from command.tests.workshop import A, LISTED, ROOT, TANGLED, Workshop
 
-COMMANDS = ("make", "list", "board", "turn", "judge", "picture", "blank", "order")
+COMMANDS = ("make", "list", "board", "turn", "ring", "judge", "picture", "blank", "order")
 
 
 class Help(Workshop):
@@ -36,7 +36,8 @@ class WrongUse(Workshop):
                       ("judge", "pins"), ("judge", "-", "-"), ("picture", "-", "-"), ("picture",),
                       ("list", "none"), ("list", "."), ("judge", "pins", "none"), ("order", "a", "b"),
                       ("--version", "x"), ("list", "-pins"), ("blank",), ("blank", "x"), ("blank", "5", "pins"),
-                      ("list", "pins", "--laminate", "pins"), ("make", "pins", "new", "--laminate")):
+                      ("list", "pins", "--laminate", "pins"), ("make", "pins", "new", "--laminate"),
+                      ("ring",), ("ring", "pins", "pins"), ("ring", "none"), ("ring", "--none", "pins")):
             with self.subTest(words):
                 done = self.run_channel(*words)
                 self.assertEqual((done.status, done.output), (2, b""))
@@ -78,18 +79,19 @@ class FullOutput(Workshop):
         for words in (("list", "pins"), ("board", "pins"), ("judge", "pins", "board"), ("picture", "pins"),
                       ("list", "tangled"), ("make", "tangled", "new"), ("make", "pins", "-"), ("turn", "pins"),
                       ("turn", "tangled"), ("turn", "empty"), ("blank", "5"), ("blank", "513"), ("blank", "5", "empty"),
-                      ("make", "pins", "new", "--laminate", "empty"), ("--help",), ("--version",)):
+                      ("make", "pins", "new", "--laminate", "empty"), ("ring", "pins"), ("ring", "tangled"),
+                      ("ring", "empty"), ("picture", "tangled"), ("--help",), ("--version",)):
             self.full(*words)
         self.assertNotIn("new", self.files())
 
     def test_closed(self):
-        for words in (("list", "pins"), ("board", "pins"), ("turn", "pins"), ("blank", "5")):
+        for words in (("list", "pins"), ("board", "pins"), ("turn", "pins"), ("ring", "pins"), ("blank", "5")):
             done = self.run_channel(*words, preexec_fn=lambda: os.close(1))
             self.assertEqual(done.status, 2, words)
             self.assertIn("cannot write standard output: it is closed", done.words)
 
     def test_a_reader_that_has_gone(self):
-        for words in (("list", "pins"), ("turn", "pins"), ("blank", "5")):
+        for words in (("list", "pins"), ("turn", "pins"), ("ring", "pins"), ("blank", "5")):
             with subprocess.Popen(["true"], stdin=subprocess.PIPE) as gone:
                 gone.wait()
                 done = self.run_channel(*words, stdout=gone.stdin)
@@ -106,3 +108,5 @@ class FullOutput(Workshop):
             self.assertEqual(done.returncode, 2)
             done = self.run_channel("blank", "513", stderr=full)
             self.assertEqual((done.status, done.output), (1, b"REFUSED 14 513\n"))
+            done = self.run_channel("ring", "tangled", stderr=full)
+            self.assertEqual((done.status, done.output), (0, b"RING 1 1\nRING 2 2\n"))

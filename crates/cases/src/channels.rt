@@ -16,6 +16,7 @@ use refusal::RECORD_TRAY;
 use refusal::RING_TRAY;
 use refusal::Refusal;
 use refusal::SCRATCH_TRAY;
+use rings::RingAnswer;
 use router::LooksAnswer;
 use router::RouteAnswer;
 
@@ -124,6 +125,29 @@ fn put_progress(top: &[u32], bot: &[u32]) {
     put_told(router::ceiling(top, bot));
 }
 
+// The pairs of the ring with the fewest nets, 0 for none; the ring buffer holds 7777 everywhere before.
+fn put_fewest(top: &[u32], bot: &[u32]) {
+    let mut ring = [output::MARK; RING_TRAY];
+    output::put_word(b"FEWEST");
+    match rings::fewest_ring(top, bot, &mut ring) {
+        RingAnswer::Pairs(pairs) => {
+            output::put_field(0);
+            output::put_field(pairs as u64);
+            output::put_word(b"\nRING");
+            output::put_row(&ring, doubled(pairs as usize));
+            output::put_kept_word(output::is_kept(&ring, doubled(pairs as usize)));
+        }
+        RingAnswer::NoRing => {
+            output::put_word(b" 0 NONE\n");
+            output::put_kept_word(output::is_kept(&ring, 0));
+        }
+        RingAnswer::Refused(refusal) => {
+            output::put_refusal(refusal);
+            output::put_kept_word(output::is_kept(&ring, 0));
+        }
+    }
+}
+
 fn put_judged(top: &[u32], bot: &[u32], board: &[u8]) {
     let mut scratch = [0u32; SCRATCH_TRAY];
     output::put_word(b"JUDGE");
@@ -148,6 +172,7 @@ fn ask(kind: u8, top: &[u32], bot: &[u32], board: &[u8]) {
         6 => put_fill(top, bot),
         8 => put_progress(top, bot),
         9 => boards::put_own(top, bot),
+        10 => put_fewest(top, bot),
         _ => put_judged(top, bot, board),
     }
 }
@@ -223,6 +248,12 @@ pub fn answer_own(bytes: &[u8]) -> bool
     ensures { λ r. ⌜ r ≡ rowsWhole (now (bytes .entry)) ⌝ }
 {
     ask_sized(9, bytes, b"")
+}
+
+pub fn answer_fewest(bytes: &[u8]) -> bool
+    ensures { λ r. ⌜ r ≡ rowsWhole (now (bytes .entry)) ⌝ }
+{
+    ask_sized(10, bytes, b"")
 }
 
 // The length of the rows' bytes in two bytes, the rows, and a board.

@@ -22,6 +22,7 @@ fn answer(kind: u8, bytes: &[u8]) -> bool {
         7 => channels::answer_judge(bytes),
         8 => channels::answer_looks(bytes),
         9 => channels::answer_own(bytes),
+        10 => channels::answer_fewest(bytes),
         _ => false,
     }
 }

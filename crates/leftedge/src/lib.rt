@@ -11,6 +11,7 @@ use grid::Net;
 use grid::Track;
 pub use nets::count_looks;
 pub use nets::fill_tracks;
+pub use ring::store_pairs;
 
 // What the caller's table has of one net. A straight net's column stands twice, and its track is 0: it has none.
 pub struct NetRecord {

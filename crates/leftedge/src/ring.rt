@@ -77,7 +77,13 @@ fn walk_down(bot: &[u32], columns: &[u32; NET_SLOTS], start: Net) -> Walked
 }
 
 // Walks `count` steps down from net `again` and stores them as pairs, net and column, at the front of `ring`.
-fn store_pairs(bot: &[u32], columns: &[u32; NET_SLOTS], again: Net, count: u32, ring: &mut [u32])
+pub fn store_pairs(
+    bot: &[u32],
+    columns: &[u32; NET_SLOTS],
+    again: Net,
+    count: u32,
+    ring: &mut [u32],
+)
     requires { ⌜ Confined (now bot) (now columns) (again .0) × (count ≤ 511)
         × (2 * count ≤ length (now ring)) ⌝ }
     ensures { λ _.

@@ -148,13 +148,20 @@ elsewhere n (x ∷ xs) (suc i) h e c = ⊎-elim here (λ q. there (elsewhere n x
         let apart = r .other in
         record { place = suc (r .place); inRow = omega arith; other = omega arith; same = r .same }
 
+-- a list with a member is not empty
+pub member-some : {x : ℕ} {xs : List ℕ} → List·Memᴰ x xs → 0 < length xs
+member-some (List·Memᴰ·head e) = omega arith
+member-some (List·Memᴰ·tail m) = omega arith
+
+-- and one that is not empty has its first member
+pub first-member : (xs : List ℕ) → 0 < length xs → List·Memᴰ (headOr 0 xs) xs
+unfolding headOr
+first-member [] h = absurd (omega arith)
+first-member (x ∷ xs) h = List·Memᴰ·head refl
+
 -- a number that stands in the row is counted
 pub member-counted : {n : ℕ} {row : List ℕ} → List·Memᴰ n row → 0 < length (keep (eqb n) row)
-member-counted {n} {row} m = some (kept (eqb n) m (eqb-refl n))
-  where
-    some : {x : ℕ} {xs : List ℕ} → List·Memᴰ x xs → 0 < length xs
-    some (List·Memᴰ·head e) = omega arith
-    some (List·Memᴰ·tail k) = omega arith
+member-counted {n} {row} m = member-some (kept (eqb n) m (eqb-refl n))
 
 -- n stands just once: so it stands in no other place
 pub just-once : (n : ℕ) (row : List ℕ) (i j : ℕ) → i < length row → j < length row → getD row i 0 ≡ n

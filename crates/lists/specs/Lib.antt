@@ -9,6 +9,7 @@ pub mod Ranges
 pub mod Greatest
 pub mod Digits
 pub mod Orders
+pub mod Climbs
 pub mod Places
 pub mod Eaches
 pub mod Tallies

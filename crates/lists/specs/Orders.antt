@@ -4,6 +4,7 @@ use native.Mathlib.Omega.{arith}
 use native.Mathlib.Decide.{decLe}
 use mathlib.Core.Path.{_≡_, refl, sym, _∙_}
 use mathlib.Core.List.{List, [], _∷_, List·Memᴰ, List·Memᴰ·head, List·Memᴰ·tail, List·Memᴰ·cases-cons, Memᴰ·cast}
+use mathlib.Core.List.{List·Memᴰ·not-nil}
 use mathlib.Core.List.{Sublistᴰ, Sublistᴰ·slnil, Sublistᴰ·cons, Sublistᴰ·cons-cons}
 use mathlib.Core.Logic.{_⊎_, inl, inr, ⊎-elim}
 use mathlib.Core.Bool.{Bool}
@@ -57,3 +58,15 @@ unfolding least
 least-member x [] = List·Memᴰ·head refl
 least-member x (y ∷ ys) =
     ⊎-elim List·Memᴰ·head (λ e. List·Memᴰ·tail (Memᴰ·cast e (least-member y ys))) (min-cases x (least (y ∷ ys)))
+
+-- the same, of a list that has a member
+pub least-among : {x : ℕ} {xs : List ℕ} → List·Memᴰ x xs → List·Memᴰ (least xs) xs
+least-among {xs = y ∷ ys} m = least-member y ys
+
+-- and none of them is lower
+pub least-lower : (xs : List ℕ) {x : ℕ} → List·Memᴰ x xs → least xs ≤ x
+unfolding least
+least-lower [] m = absurd (List·Memᴰ·not-nil m)
+least-lower (y ∷ []) m = ⊎-elim (λ e. omega arith) (λ k. absurd (List·Memᴰ·not-nil k)) (List·Memᴰ·cases-cons m)
+least-lower (y ∷ (z ∷ zs)) m =
+    ⊎-elim (λ e. omega arith) (λ k. let l = least-lower (z ∷ zs) k in omega arith) (List·Memᴰ·cases-cons m)

@@ -4,6 +4,7 @@ use native.Mathlib.Omega.{arith}
 use mathlib.Core.Path.{_≡_, refl, sym, ap, subst}
 use mathlib.Core.List.{List, [], _∷_, _++_, List·Memᴰ, List·Memᴰ·head, List·Memᴰ·tail, List·Memᴰ·cases-cons}
 use mathlib.Core.List.{List·Memᴰ·not-nil, List·Memᴰ·append-cases, List·Memᴰ·eq-of-singleton, Memᴰ·cast}
+use mathlib.Core.List.{Memᴰ·append-left, Memᴰ·append-right}
 use mathlib.Core.Logic.{_⊎_, ⊎-elim}
 use mathlib.Core.Bool.{Bool, true, false, cond, not}
 use lib.ListN.{length}
@@ -34,6 +35,30 @@ append-distinct (x ∷ xs) ys d e h =
     distinct-cons x (xs ++ ys) (λ m. ⊎-elim (distinct-head x xs d) (h x (List·Memᴰ·head refl))
     (List·Memᴰ·append-cases xs m))
     (append-distinct xs ys (distinct-tail x xs d) e (λ n m. h n (List·Memᴰ·tail m)))
+
+-- of two lists put end to end that repeat nothing neither does, and they have no member in common
+record Apart (xs ys : List ℕ) : Type 0 where
+  left : Distinct xs
+  right : Distinct ys
+  apart : (n : ℕ) → List·Memᴰ n xs → List·Memᴰ n ys → ⊥
+
+distinct→apart : (xs ys : List ℕ) → Distinct (xs ++ ys) → Apart xs ys
+unfolding Distinct
+distinct→apart [] ys d = record { left = tt; right = d; apart = λ n m k. List·Memᴰ·not-nil m }
+distinct→apart (x ∷ xs) ys d =
+    let r = distinct→apart xs ys (distinct-tail x (xs ++ ys) d) in
+    let out = distinct-head x (xs ++ ys) d in
+    record {
+      left = distinct-cons x xs (λ m. out (Memᴰ·append-left ys m)) (r .left);
+      right = r .right;
+      apart = λ n m k. ⊎-elim (λ e. out (Memᴰ·append-right xs (Memᴰ·cast (sym e) k))) (λ t. r .apart n t k)
+          (List·Memᴰ·cases-cons m);
+    }
+
+-- put end to end the other way round they repeat nothing either
+pub distinct-swap : (xs ys : List ℕ) → Distinct (xs ++ ys) → Distinct (ys ++ xs)
+distinct-swap xs ys d =
+    let r = distinct→apart xs ys d in append-distinct ys xs (r .right) (r .left) (λ n m k. r .apart n k m)
 
 pub keep-distinct : (f : ℕ → Bool) (xs : List ℕ) → Distinct xs → Distinct (keep f xs)
 unfolding keep

@@ -1,10 +1,11 @@
--- Runs of stores: one run behind another is one run, whichever is stored first, and a run from the front fills it.
+-- Runs of stores: one run behind another is one run, whichever is stored first, a run from the front fills it, and one
+-- behind the front lengthens it.
 use Prim.Native.Nat.{ℕ, suc, _+_, _≤_, _<_}
 use native.Mathlib.Omega.{arith}
 use mathlib.Core.Path.{_≡_, refl, sym, _∙_, ap}
 use mathlib.Core.List.{List, [], _∷_, _++_}
-use lib.ListN.{length, getD, set, take, drop}
-use lib.Seq.{sets, sets-eq, set-comm, take-suc, length-take-le}
+use lib.ListN.{length, getD, set, take, drop, length-append}
+use lib.Seq.{sets, sets-eq, set-comm, take-at, take-suc, length-take-le}
 use Rattle.lists.specs.Lists.{overlay}
 
 module _ {A : Type 0} where
@@ -20,6 +21,15 @@ module _ {A : Type 0} where
       let long : length (take k xs) ≡ k = length-take-le k xs (omega arith) in
       ap (λ (n : ℕ). set (sets b i (take k xs)) (i + n) (getD xs k d)) (sym long)
       ∙ (sets-append b i (take k xs) (getD xs k d ∷ []) ∙ ap (sets b i) (sym (take-suc xs k d h)))
+
+  -- the front of a list after a run is stored behind it
+  pub front-more : (b : List A) (i : ℕ) (xs : List A) → i + length xs ≤ length b
+      → take (i + length xs) (sets b i xs) ≡ take i b ++ xs
+  front-more b i xs h =
+      let long = length-append (take i b) xs in
+      let front : length (take i b) ≡ i = length-take-le i b (omega arith) in
+      ap (take (i + length xs)) (sets-eq xs b i h)
+      ∙ take-at (take i b ++ xs) (drop (i + length xs) b) (i + length xs) (omega arith)
 
   -- a store in a place before a run may come first
   set-first : (b : List A) (i j : ℕ) (x : A) (ys : List A) → i < j → set (sets b j ys) i x ≡ sets (set b i x) j ys

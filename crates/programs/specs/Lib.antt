@@ -2,3 +2,4 @@ pub mod Programs
 pub mod Code
 pub mod CodeLaws
 pub mod RouteLaws
+pub mod RingLaws

@@ -1,9 +1,10 @@
--- 01, "Judge, blanks, programs": what each of the three programs writes to standard output, of the bytes that it reads.
+-- 01, "Judge, blanks, programs", and 02, Req 05: what each of the programs writes to standard output, of the bytes that
+-- it reads.
 use Prim.Native.Nat.{ℕ}
 use mathlib.Core.List.{List, _++_}
 use mathlib.Core.Bool.{cond}
 use lib.ListN.{length}
-use lib.Dec.{ltb}
+use lib.Dec.{ltb, eqb}
 use Rattle.lists.specs.Lists.{each}
 use Rattle.refusal.specs.Refusals.{toldAt, Told, answered}
 use Rattle.refusal.specs.Trays.{scratchTray}
@@ -12,6 +13,7 @@ use Rattle.channel.specs.Density.{density}
 use Rattle.channel.specs.Constraints.{chain}
 use Rattle.pinlist.specs.Answers.{textRefusal, textChannel}
 use Rattle.leftedge.specs.Nets.{fill}
+use Rattle.rings.specs.Fewest.{fewest, fewestRing}
 use Rattle.boardfile.specs.Encode.{encode}
 use Rattle.judge.specs.declared.JudgeAnswer.{JudgeAnswer}
 use Rattle.judge.specs.Answers.{judgeAnswer, judgeTold}
@@ -22,6 +24,7 @@ use Rattle.report.specs.Lines.{
   toldLine,
   refusalLine,
   ringLines,
+  noneLine,
   boardLine,
   boundLine,
   netLine,
@@ -61,6 +64,10 @@ listing ch =
 abbrev pub boardBytes : Channel → List ℕ
 boardBytes ch = encode (width ch) (layoutDrawn ch (fill ch))
 
+-- 02, Req 05: the pairs of the ring with the fewest nets, a line each; or that there is none
+unfoldable pub fewestLines : Channel → List ℕ
+fewestLines ch = cond (eqb (fewest ch) 0) noneLine (ringLines (fewestRing ch))
+
 -- "printing GOOD and tracks"
 unfoldable pub judgeLines : JudgeAnswer → List ℕ
 judgeLines a = toldLine "GOOD" (judgeTold a)
@@ -80,3 +87,7 @@ boardOutput text = ofPinList (ofFilled boardBytes) text
 -- "a third judges files `pins` and `board`"; "`pins` is refused before `board` is read"
 unfoldable pub judgeOutput : List ℕ → List ℕ → List ℕ
 judgeOutput pins board = ofPinList (judgedAgainst board) pins
+
+-- a fourth finds the ring with the fewest nets of the pin list that it reads
+unfoldable pub ringOutput : List ℕ → List ℕ
+ringOutput text = ofPinList fewestLines text

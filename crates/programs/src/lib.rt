@@ -1,4 +1,4 @@
-// What the three programs write, of the bytes that they read. A program itself only reads and writes.
+// What the programs write, of the bytes that they read. A program itself only reads and writes.
 ghost use mathlib.Core.Path.{_≡_};
 ghost use Prim.Native.Nat.{_≤_};
 ghost use lib.ListN.{length, take};
@@ -11,7 +11,7 @@ ghost use Rattle.text.specs.Lines.{Put};
 ghost use Rattle.report.specs.Lines.{refusedLine, refusalLine};
 ghost use Rattle.report.specs.Code.{listingText};
 ghost use Rattle.programs.specs.Programs.{overLimit, ofFilled, listing, boardBytes, judgeLines, judgedAgainst};
-ghost use Rattle.programs.specs.Programs.{listingOutput, boardOutput, judgeOutput};
+ghost use Rattle.programs.specs.Programs.{fewestLines, listingOutput, boardOutput, judgeOutput, ringOutput};
 ghost use Rattle.programs.specs.Code.{unroutedText, figuresOf, pinsPass, PinsDone};
 use blanks::BlankAnswer;
 use channel::BoundsAnswer;
@@ -23,6 +23,7 @@ use refusal::ROW_TRAY;
 use refusal::Refusal;
 use refusal::SCRATCH_TRAY;
 use report::Figures;
+use rings::RingAnswer;
 use router::RouteAnswer;
 use router::Routing;
 
@@ -208,6 +209,35 @@ pub fn board_output(text: &[u8], out: &mut [u8]) -> usize
     match read_pins(text, &mut top, &mut bot, out) {
         PinsRead::Refused(size) => size,
         PinsRead::Width(w) => board_channel(&top[..w], &bot[..w], out),
+    }
+}
+
+// The lines of the ring with the fewest nets of a channel that is accepted.
+fn ring_channel(top: &[u32], bot: &[u32], out: &mut [u8]) -> usize
+    requires { ⌜ Escapes (rows (now top) (now bot)) × (65536 ≤ length (now out)) ⌝ }
+    ensures { λ r.
+        ⌜ Put (now (out .entry)) 0 (fewestLines (rows (now (top .entry)) (now (bot .entry)))) (now (out .exit)) r ⌝ }
+    ensures { λ r. ⌜ r ≤ 65536 ⌝ }
+{
+    let mut ring = [0u32; RING_TRAY];
+    match rings::fewest_ring(top, bot, &mut ring) {
+        RingAnswer::Pairs(pairs) => report::put_ring(out, 0, &ring, pairs as usize),
+        RingAnswer::NoRing => report::put_none(out),
+        RingAnswer::Refused(refusal) => put_refusal(out, refusal),
+    }
+}
+
+// What the program that finds rings writes of the text that it reads.
+pub fn ring_output(text: &[u8], out: &mut [u8]) -> usize
+    requires { ⌜ 65536 ≤ length (now out) ⌝ }
+    ensures { λ r. ⌜ Put (now (out .entry)) 0 (ringOutput (now (text .entry))) (now (out .exit)) r ⌝ }
+    ensures { λ r. ⌜ Counts r (now (out .exit)) ⌝ }
+{
+    let mut top = [0u32; ROW_TRAY];
+    let mut bot = [0u32; ROW_TRAY];
+    match read_pins(text, &mut top, &mut bot, out) {
+        PinsRead::Refused(size) => size,
+        PinsRead::Width(w) => ring_channel(&top[..w], &bot[..w], out),
     }
 }
 

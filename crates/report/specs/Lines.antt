@@ -26,6 +26,10 @@ refusalLine r = refusedLine (toldRefusal r)
 unfoldable pub ringLines : List Step → List ℕ
 ringLines steps = each (λ s. line "RING" (s .net ∷ s .column ∷ [])) steps
 
+-- of a channel that has no ring (02, Req 05)
+unfoldable pub noneLine : List ℕ
+noneLine = line "NONE" []
+
 -- "BOARD: width, tracks, blank"
 unfoldable pub boardLine : ℕ → ℕ → ℕ → List ℕ
 boardLine width tracks blank = line "BOARD" (width ∷ tracks ∷ blank ∷ [])

@@ -1,4 +1,4 @@
-// The lines that the three programs write, put into a lent buffer.
+// The lines that the programs write, put into a lent buffer.
 ghost use mathlib.Core.List.{[], _∷_};
 ghost use Prim.Native.Nat.{_+_, _*_, _≤_};
 ghost use lib.ListN.{length, take};
@@ -6,7 +6,7 @@ ghost use Rattle.lists.specs.Lists.{each};
 ghost use Rattle.refusal.specs.Trays.{recordTray};
 ghost use Rattle.text.specs.Lines.{line, Put};
 ghost use Rattle.refusal.specs.Refusals.{toldAt};
-ghost use Rattle.report.specs.Lines.{refusedLine, boardLine, boundLine, netLine, endLine};
+ghost use Rattle.report.specs.Lines.{refusedLine, noneLine, boardLine, boundLine, netLine, endLine};
 ghost use Rattle.report.specs.Code.{ringText, listingText};
 use leftedge::NetRecord;
 use refusal::RECORD_TRAY;
@@ -55,6 +55,16 @@ pub fn put_ring(out: &mut [u8], at: usize, ring: &[u32], pairs: usize) -> usize
         i += 1;
     }
     next
+}
+
+// The line of a channel that has no ring, at the front of `out`; answers its length.
+pub fn put_none(out: &mut [u8]) -> usize
+    requires { ⌜ 64 ≤ length (now out) ⌝ }
+    ensures { λ r. ⌜ Put (now (out .entry)) 0 noneLine (now (out .exit)) r ⌝ }
+    ensures { λ r. ⌜ r ≤ 64 ⌝ }
+{
+    let numbers = [0u64; 0];
+    text::put_line(out, 0, b"NONE", &numbers)
 }
 
 // The figures of a listing.

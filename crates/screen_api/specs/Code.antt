@@ -16,6 +16,8 @@ use Rattle.channel.specs.Answers.{Escapes, boundsAnswer, boundsTold}
 use Rattle.channel.specs.Turned.{turned}
 use Rattle.wiring.specs.Layouts.{Good, OneTrunkEach}
 use Rattle.leftedge.specs.Looks.{ceiling}
+use Rattle.rings.specs.Answers.{fewestAnswer, fewestAfter, fewestTold}
+use Rattle.rings.specs.Promise.{FewestPromise}
 use Rattle.pinlist.specs.Answers.{readAnswer, readTold, topAfter, botAfter}
 use Rattle.boardfile.specs.Open.{fileLayout}
 use Rattle.judge.specs.Answers.{judgeRefusal, judgeAnswer, judgeTold}
@@ -74,6 +76,15 @@ module _ (ch : Channel) (ring board : List ℕ) where
     pub ringHeld : ring′ ≡ ringAfter trays ch ring
     pub boardHeld : board′ ≡ boardAfter trays ch board
     pub promise : ringTray ≤ length ring → boardTray ≤ length board → Escapes ch → RouteNumberPromise ch r ring′ board′
+
+-- Req 05 of 02, of the number r and of the ring that the caller then holds. Rules out: 7 told of a tangled channel
+-- (accepted); the ring of the walk where there is a shorter one (promise)
+pub record FewestEntry (ch : Channel) (ring : List ℕ) (r : ℕ) (ring′ : List ℕ) : Type 0 where
+  pub answer : r ≡ entryNumber (fewestTold (fewestAnswer (length ring) ch))
+  pub decoded : Decoded (fewestTold (fewestAnswer (length ring) ch)) r
+  pub ringHeld : ring′ ≡ fewestAfter ch ring
+  pub accepted : (refusalIn r ≡ 0) ↔ ((ringTray ≤ length ring) × Escapes ch)
+  pub promise : refusalIn r ≡ 0 → FewestPromise ch (placeIn r) ring ring′
 
 -- Req 07 of 02, of the number r. Rules out: a tangled channel refused (accepted); its last, empty scan not counted
 -- (promise)

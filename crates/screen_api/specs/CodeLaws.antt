@@ -20,6 +20,7 @@ use Rattle.channel.specs.Density.{density}
 use Rattle.channel.specs.Constraints.{chain}
 use Rattle.channel.specs.Answers.{Escapes, rowsRefusal, boundsAnswer, boundsTold}
 use Rattle.channel.specs.EscapeLaws.{accepted-exactly}
+use Rattle.channel.specs.CountLaws.{nets-few}
 use Rattle.channel.specs.ToldLaws.{bounds-told, density-small, chain-small, ring-small}
 use Rattle.pinlist.specs.declared.ReadAnswer.{ReadAnswer}
 use Rattle.pinlist.specs.declared.ReadAnswer.the-variants as reading
@@ -30,6 +31,14 @@ use Rattle.leftedge.specs.Walk.{ringOf}
 use Rattle.leftedge.specs.Looks.{ceiling}
 use Rattle.leftedge.specs.Nets.{netItems, looks}
 use Rattle.leftedge.specs.NetFill.{looks≤ceiling}
+use Rattle.rings.specs.declared.RingAnswer.{RingAnswer}
+use Rattle.rings.specs.declared.RingAnswer.the-variants as rings
+use Rattle.rings.specs.Fewest.{fewest}
+use Rattle.rings.specs.Answers.{fewestRefusal, fewestTold}
+use Rattle.rings.specs.Promise.{FewestPromise}
+use Rattle.rings.specs.Code.{FewestDone}
+use Rattle.rings.specs.FewestLaws.{fewest-few}
+use Rattle.rings.specs.AnswerLaws.{fewest-told, fewest-accepted, counted}
 use Rattle.boardfile.specs.Open.{fileTracks, fileLayout}
 use Rattle.judge.specs.declared.Fault.{Fault}
 use Rattle.judge.specs.declared.Fault.the-variants.{Short, Open, Floating}
@@ -78,6 +87,7 @@ use Rattle.screen_api.specs.Code.{
   BoundsEntry,
   RouteNumberPromise,
   RouteEntry,
+  FewestEntry,
   LooksEntry,
   CeilingEntry,
   FaultNumbers,
@@ -214,6 +224,43 @@ module _ {ch : Channel} {ring board ring′ board′ : List ℕ} {a : Routing}
   route-routed q =
       let small = routed-small (routeTrays (length ring) (length board)) ch (sym (done .answer) ∙ q) in
       route-entry (rw q (pair-number (omega arith) (omega arith)))
+
+-- the ring with the fewest nets
+module _ {ch : Channel} {ring ring′ : List ℕ} {a : RingAnswer} (done : FewestDone ch ring a ring′) where
+  -- there are at most 511 nets
+  pairs-fit : fewest ch < 4294967296
+  pairs-fit = let few = fewest-few ch in let all = nets-few ch in omega arith
+
+  pub fewest-entry : {r : ℕ} → r ≡ entryNumber (fewestTold a) → FewestEntry ch ring r ring′
+  fewest-entry {r} e =
+      let answer = e ∙ ap (λ x. entryNumber (fewestTold x)) (done .answer) in
+      let by = answer ∙ ap entryNumber (fewest-told (length ring) ch) in
+      let accepted =
+      Iff·trans (zero-exactly (fewestRefusal (length ring) ch) _ by) (fewest-accepted (length ring) ch) in
+      record {
+        answer = answer;
+        decoded = decoded answer;
+        ringHeld = done .held;
+        accepted = accepted;
+        promise = λ h.
+            let fits = accepted .0 h in
+            let read = value-back (zero→values (fewestRefusal (length ring) ch) _ by h) pairs-fit in
+            let pairs = counted ch ring (fits .0) (fits .1) (record { answer = done .answer; held = done .held }) in
+            subst (λ (k : ℕ). FewestPromise ch k ring ring′) (pairs ∙ sym read) (done .promise (fits .0) (fits .1));
+      }
+
+  -- a number of pairs is told as itself, and none as 0
+  pub fewest-pairs : {k : ℕ} → a ≡ rings.Pairs k → FewestEntry ch ring k ring′
+  unfolding fewestTold
+  fewest-pairs {k} q =
+      let s = told-success (fewestRefusal (length ring) ch) _ (k ∷ [])
+      (sym (fewest-told (length ring) ch) ∙ ap fewestTold (sym (done .answer) ∙ q)) in
+      let same : fewest ch ≡ k = cc (s .1) in
+      fewest-entry (rw q (value-number (omega (arith, same, pairs-fit))))
+
+  pub fewest-none : a ≡ rings.NoRing → FewestEntry ch ring 0 ring′
+  unfolding fewestTold
+  fewest-none q = fewest-entry (rw q (value-number (omega arith)))
 
 -- looks and their ceiling
 module _ (ch : Channel) where

@@ -8,13 +8,14 @@ ghost use Rattle.channel.specs.Channel.{rows};
 ghost use Rattle.judge.specs.Answers.{faultNumber, faultPlace};
 ghost use Rattle.screen_api.specs.Numbers.{entryNumber};
 ghost use Rattle.screen_api.specs.Code.{ReadEntry, BoundsEntry, RouteEntry, LooksEntry, CeilingEntry};
-ghost use Rattle.screen_api.specs.Code.{JudgeEntry, BlankEntry, OwnBlankEntry};
+ghost use Rattle.screen_api.specs.Code.{FewestEntry, JudgeEntry, BlankEntry, OwnBlankEntry};
 use blanks::BlankAnswer;
 use channel::BoundsAnswer;
 use judge::Fault;
 use judge::JudgeAnswer;
 use pinlist::ReadAnswer;
 use refusal::Refusal;
+use rings::RingAnswer;
 use router::LooksAnswer;
 use router::RouteAnswer;
 
@@ -73,6 +74,20 @@ pub extern "C" fn cabjirt_route(top: &[u32], bot: &[u32], ring: &mut [u32], boar
     match answer {
         RouteAnswer::Routed { tracks, pieces } => pieces as u64 * 65536 + tracks as u64,
         RouteAnswer::Refused(refusal) => refused(refusal),
+    }
+}
+
+// The ring with the fewest nets of rows: the number of its pairs, which fill the front of the ring, or 0 if there is
+// none; or refusals 1 and 3 to 5.
+#[no_mangle]
+pub extern "C" fn cabjirt_fewest_ring(top: &[u32], bot: &[u32], ring: &mut [u32]) -> u64
+    ensures { λ r.
+        ⌜ FewestEntry (rows (now (top .entry)) (now (bot .entry))) (now (ring .entry)) r (now (ring .exit)) ⌝ }
+{
+    match rings::fewest_ring(top, bot, ring) {
+        RingAnswer::Pairs(pairs) => pairs as u64,
+        RingAnswer::NoRing => 0,
+        RingAnswer::Refused(refusal) => refused(refusal),
     }
 }
 
