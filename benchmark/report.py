@@ -139,7 +139,7 @@ def exponent(values):
 def print_growth(growth):
     print_row("Operation", "Input", "Side", *WIDTHS, "Exponent")
     print("|---|---|---|" + "---:|" * (len(WIDTHS) + 1))
-    for operation in ("bounds", "route", "judge"):
+    for operation in ("bounds", "route", "judge", "fewest-ring"):
         for shape, label in GROWING.items():
             for side, who in enumerate(("Rattle", "C", "C, pairwise")):
                 values = [growth[operation, shape, width][side] for width in WIDTHS]
