@@ -10,13 +10,20 @@ use Rattle.lists.specs.Lists.{keep, upTo, headOr, at}
 use Rattle.channel.specs.Channel.{Channel, width}
 use Rattle.channel.specs.Constraints.{above, Step}
 
--- in column c net n is directly above a net without a track
-unfoldable pub overUnplaced : Channel → List ℕ → ℕ → ℕ → Bool
-overUnplaced ch tracks n c = above ch n (at (ch .bot) c) c && eqb (getD tracks (at (ch .bot) c) 0) 0
+-- in column c net n is directly above a net that is wanted below it
+unfoldable pub overWanted : Channel → (ℕ → ℕ → Bool) → ℕ → ℕ → Bool
+overWanted ch wanted n c = above ch n (at (ch .bot) c) c && wanted n (at (ch .bot) c)
 
--- the lowest column in which net n is above a net without a track, 0 if there is none
-unfoldable pub lowestDrop : Channel → List ℕ → ℕ → ℕ
-lowestDrop ch tracks n = headOr 0 (keep (overUnplaced ch tracks n) (upTo (width ch)))
+-- the lowest such column of net n, 0 if there is none
+unfoldable pub lowestOver : Channel → (ℕ → ℕ → Bool) → ℕ → ℕ
+lowestOver ch wanted n = headOr 0 (keep (overWanted ch wanted n) (upTo (width ch)))
+
+-- the walk wants a net without a track
+abbrev pub bare : List ℕ → ℕ → ℕ → Bool
+bare tracks n b = eqb (getD tracks b 0) 0
+
+abbrev pub lowestDrop : Channel → List ℕ → ℕ → ℕ
+lowestDrop ch tracks n = lowestOver ch (bare tracks) n
 
 -- the net below n in the column that is kept for n
 abbrev pub netBelow : List ℕ → List ℕ → ℕ → ℕ

@@ -28,16 +28,17 @@ use Rattle.leftedge.specs.Nets.{netItems}
 use Rattle.leftedge.specs.WalkLaws.{first-drop, least-left}
 use Rattle.leftedge.specs.NetLaws.{order→spanning, falls→above}
 use Rattle.leftedge.specs.Code.{WalkFrom, RingShown}
-use Rattle.leftedge.specs.Ring.{overUnplaced, lowestDrop, netBelow, after, met, pairOf, stepsBy, Confines}
+use Rattle.leftedge.specs.Ring.{overWanted, lowestOver, bare, lowestDrop, netBelow, after, met, pairOf, stepsBy}
 use Rattle.leftedge.specs.RingLists.{keep-same, keep-map, steps-more}
-use Rattle.leftedge.specs.Ring.{Closes}
+use Rattle.leftedge.specs.Ring.{Confines, Closes}
 use Rattle.leftedge.specs.TrailLaws.{length-met, getD-met, drop-met, met-distinct, after-inside, met-few}
 
 -- the drop in column c
-abbrev dropIn : List ℕ → ℕ → Drop
+abbrev pub dropIn : List ℕ → ℕ → Drop
 dropIn bot c = record { column = c; lower = at bot c }
 
-head-drop : (bot : List ℕ) (cs : List ℕ) → headOr (record { column = 0; lower = 0 }) (map (dropIn bot) cs) ≡ dropIn bot
+-- the first of some drops
+pub head-drop : (bot : List ℕ) (cs : List ℕ) → headOr (record { column = 0; lower = 0 }) (map (dropIn bot) cs) ≡ dropIn bot
     (headOr 0 cs)
 unfolding headOr at
 head-drop bot [] = refl
@@ -104,8 +105,8 @@ module _ (ch : Channel) (tracks left : List ℕ) (count : ℕ) (w : WalkFrom ch 
   ls = take count left
 
   -- a net below another has no track exactly if it is left
-  free-below : (n c : ℕ) → (above ch n (at (ch .bot) c) c && isIn (at (ch .bot) c) ls) ≡ overUnplaced ch tracks n c
-  unfolding overUnplaced
+  free-below : (n c : ℕ) → (above ch n (at (ch .bot) c) c && isIn (at (ch .bot) c) ls) ≡ overWanted ch (bare tracks) n c
+  unfolding overWanted
   free-below n c = go (above ch n (at (ch .bot) c) c) refl
     where
       go : (t : Bool) → above ch n (at (ch .bot) c) c ≡ t
@@ -119,7 +120,7 @@ module _ (ch : Channel) (tracks left : List ℕ) (count : ℕ) (w : WalkFrom ch 
 
   -- the column kept is that of the first drop
   first-drop-kept : (n : ℕ) → firstDrop (netItems ch) ls n ≡ dropIn (ch .bot) (lowestDrop ch tracks n)
-  unfolding firstDrop netItems drops lowestDrop
+  unfolding firstDrop netItems drops lowestOver
   first-drop-kept n =
       let on : ℕ → Bool = λ c. above ch n (at (ch .bot) c) c in
       ap (headOr (record { column = 0; lower = 0 }))

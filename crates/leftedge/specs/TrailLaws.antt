@@ -80,7 +80,8 @@ module _ (next : ℕ → ℕ) (start : ℕ) where
       let e : suc k + i ≡ suc (k + i) = omega arith in
       ap (after next start) e ∙ ap next (after-from i k)
 
-  met-from : (i k : ℕ) → met next start (k + i) ≡ met next start i ++ met next (after next start i) k
+  -- a walk goes on from where it has come to
+  pub met-from : (i k : ℕ) → met next start (k + i) ≡ met next start i ++ met next (after next start i) k
   unfolding met
   met-from i zero =
       let e : zero + i ≡ i = omega arith in

@@ -3,7 +3,7 @@
 use Prim.Native.Nat.{ℕ, zero, suc, _≤_}
 use native.Mathlib.Omega.{arith}
 use mathlib.Core.Path.{_≡_, refl, sym, _∙_, ap, subst}
-use mathlib.Core.List.{List, [], _∷_, map, Memᴰ·of-map}
+use mathlib.Core.List.{List, map, Memᴰ·of-map}
 use mathlib.Core.Bool.{Bool}
 use lib.ListN.{length}
 use lib.Dec.{T}
@@ -14,18 +14,9 @@ use Rattle.channel.specs.Channel.{Channel, width}
 use Rattle.channel.specs.Constraints.{Above, above, Drop, drops, below, netsOf, Descends, last, next}
 use Rattle.channel.specs.Laws.{drop→above, above→drop}
 use Rattle.leftedge.specs.RingLists.{keep-map}
+use Rattle.leftedge.specs.RingLaws.{dropIn, head-drop}
 use Rattle.rings.specs.Fewest.{leads, homeDrop, homeward}
 use Rattle.rings.specs.LeadLaws.{none-leads, step-leads}
-
--- the drop in column c
-abbrev pub dropIn : Channel → ℕ → Drop
-dropIn ch c = record { column = c; lower = at (ch .bot) c }
-
-first-drop : (ch : Channel) (cs : List ℕ)
-    → headOr (record { column = 0; lower = 0 }) (map (dropIn ch) cs) ≡ dropIn ch (headOr 0 cs)
-unfolding headOr at
-first-drop ch [] = refl
-first-drop ch (c ∷ cs) = refl
 
 -- the drop goes down from net n to a net from which k steps lead home
 pub record DropsHome (ch : Channel) (k home n : ℕ) (d : Drop) : Type 0 where
@@ -59,14 +50,14 @@ module _ (ch : Channel) where
         keep-rising _ (keep (λ c. above ch n (at (ch .bot) c) c) (upTo (width ch)))
         (keep-rising _ (upTo (width ch)) (from-rising 1 (width ch)))
 
-    home-drops : keep leadsHome (drops ch n) ≡ map (dropIn ch) homeColumns
+    home-drops : keep leadsHome (drops ch n) ≡ map (dropIn (ch .bot)) homeColumns
     unfolding drops
-    home-drops = keep-map leadsHome (dropIn ch) (keep (λ c. above ch n (at (ch .bot) c) c) (upTo (width ch)))
+    home-drops = keep-map leadsHome (dropIn (ch .bot)) (keep (λ c. above ch n (at (ch .bot) c) c) (upTo (width ch)))
 
     -- `homeDrop` goes down in the first of them
-    pub home-first : homeDrop ch k home n ≡ dropIn ch (headOr 0 homeColumns)
+    pub home-first : homeDrop ch k home n ≡ dropIn (ch .bot) (headOr 0 homeColumns)
     unfolding homeDrop
-    home-first = ap (headOr (record { column = 0; lower = 0 })) home-drops ∙ first-drop ch homeColumns
+    home-first = ap (headOr (record { column = 0; lower = 0 })) home-drops ∙ head-drop (ch .bot) homeColumns
 
     -- where a step and k more lead home, `homeDrop` is the first of these steps
     pub home-drop : T (leads (below ch) (suc k) n home) → DropsHome ch k home n (homeDrop ch k home n)
@@ -83,7 +74,7 @@ module _ (ch : Channel) where
     pub home-lowest : {b c : ℕ} → Above ch n b c → T (leads (below ch) k b home) → homeDrop ch k home n .column ≤ c
     home-lowest {b} {c} h t =
         let some = kept leadsHome (above→drop ch n b c h) t in
-        let r = Memᴰ·of-map (dropIn ch) homeColumns (rw home-drops at some) in
+        let r = Memᴰ·of-map (dropIn (ch .bot)) homeColumns (rw home-drops at some) in
         let low = head-least homeColumns 0 home-columns-rising (r .1) in
         let same : r .0 ≡ c = ap (λ (d : Drop). d .column) (r .2) in
         let here = ap (λ (d : Drop). d .column) home-first in

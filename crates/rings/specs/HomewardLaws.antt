@@ -1,9 +1,9 @@
 -- The walk home by the columns kept. With the fewest steps down to one net from each other known, a net below is one
 -- step nearer exactly if the steps left lead from it, so the column kept for a net is that of its first drop homeward.
-use Prim.Native.Nat.{ℕ, zero, suc, _-_, _≤_, _<_}
+use Prim.Native.Nat.{ℕ, zero, suc, _+_, _-_, _≤_, _<_}
 use native.Mathlib.Omega.{arith}
 use mathlib.Core.Path.{_≡_, refl, sym, _∙_, ap, ap₂, subst}
-use mathlib.Core.List.{List, [], _∷_, _++_, List·Memᴰ, Memᴰ·cast}
+use mathlib.Core.List.{List, _∷_, List·Memᴰ, Memᴰ·cast}
 use mathlib.Core.Logic.{⊎-elim}
 use mathlib.Core.Bool.{Bool, true, false, _&&_}
 use lib.ListN.{length, getD}
@@ -21,24 +21,19 @@ use Rattle.channel.specs.Laws.{above→}
 use Rattle.channel.specs.PathLaws.{above→below}
 use Rattle.channel.specs.SpanLaws.{above-column}
 use Rattle.channel.specs.Spans.{each512}
-use Rattle.leftedge.specs.Ring.{netBelow, after, met, stepsBy, Confined}
+use Rattle.leftedge.specs.TrailLaws.{met-from}
+use Rattle.leftedge.specs.RingLaws.{dropIn}
+use Rattle.leftedge.specs.Ring.{overWanted, lowestOver, netBelow, after, met, stepsBy, Confined}
 use Rattle.rings.specs.Fewest.{leads, homeDrop, homeward}
 use Rattle.rings.specs.LeadLaws.{leads-none, none-leads, leads-step}
-use Rattle.rings.specs.Search.{numbers, FewestSteps, Searched, CanShow, nearer, overNearer, homeColumn}
-use Rattle.rings.specs.HomeLaws.{dropIn, DropsHome, home-first, home-drop}
-use Rattle.rings.specs.ColumnLaws.{nearer-home, nearer-other}
+use Rattle.rings.specs.Search.{numbers, FewestSteps, Searched, CanShow, nearer, homeColumn}
+use Rattle.rings.specs.HomeLaws.{DropsHome, home-first, home-drop}
+use Rattle.rings.specs.NearerLaws.{nearer-home, nearer-other}
 
 -- a walk's nets are its first and those of the walk from the next
-module _ (next : ℕ → ℕ) where
-  after-next : (n k : ℕ) → after next n (suc k) ≡ after next (next n) k
-  unfolding after
-  after-next n zero = refl
-  after-next n (suc k) = ap next (after-next n k)
-
-  met-next : (n k : ℕ) → met next n (suc k) ≡ n ∷ met next (next n) k
-  unfolding met after
-  met-next n zero = refl
-  met-next n (suc k) = ap₂ (λ (l : List ℕ) (m : ℕ). l ++ (m ∷ [])) (met-next n k) (after-next n k)
+met-next : (next : ℕ → ℕ) (n k : ℕ) → met next n (suc k) ≡ n ∷ met next (next n) k
+unfolding met after
+met-next next n k = let e : suc k ≡ k + 1 = omega arith in ap (met next n) e ∙ met-from next n 1 k
 
 -- the fewest steps from a net are at most one more than those from a net below it
 module _ {under : ℕ → List ℕ} {a b z d : ℕ} (f : FewestSteps under a z d) (m : List·Memᴰ b (under a)) where
@@ -97,8 +92,8 @@ module _ (ch : Channel) (net : ℕ) (far : List ℕ) (s : Searched (below ch) ne
   module _ (k n : ℕ) (e : getD far n 0 ≡ suc k) where
     -- the steps left lead from the net below in a column exactly if that is one step nearer
     home-test : (c : ℕ) → (above ch n (at (ch .bot) c) c && leads (below ch) k (at (ch .bot) c) net)
-        ≡ overNearer ch far net n c
-    unfolding overNearer
+        ≡ overWanted ch (nearer far net) n c
+    unfolding overWanted
     home-test c = go (above ch n (at (ch .bot) c) c) refl
       where
         go : (t : Bool) → above ch n (at (ch .bot) c) c ≡ t
@@ -110,10 +105,10 @@ module _ (ch : Channel) (net : ℕ) (far : List ℕ) (s : Searched (below ch) ne
             same-test _ _ (leads→nearer s n b m k e) (nearer→leads s n b m k e)
 
     -- so the column kept is that of the first drop homeward
-    home-kept : homeDrop ch k net n ≡ dropIn ch (homeColumn ch far net n)
-    unfolding homeColumn
+    home-kept : homeDrop ch k net n ≡ dropIn (ch .bot) (homeColumn ch far net n)
+    unfolding lowestOver
     home-kept =
-        home-first ch k net n ∙ ap (λ (cs : List ℕ). dropIn ch (headOr 0 cs))
+        home-first ch k net n ∙ ap (λ (cs : List ℕ). dropIn (ch .bot) (headOr 0 cs))
         (keep-keep (λ c. leads (below ch) k (at (ch .bot) c) net) (λ c. above ch n (at (ch .bot) c) c)
         (upTo (width ch)) ∙ keep-same _ _ (upTo (width ch)) (λ c m. home-test c))
 
@@ -138,11 +133,11 @@ module _ {ch : Channel} {head next ring : List ℕ} {net nets : ℕ} (can : CanS
 
   -- the column kept for a number is that of its first drop homeward
   column-kept : (k n : ℕ) → List·Memᴰ n numbers → getD far n 0 ≡ suc k
-      → homeDrop ch k net n ≡ dropIn ch (getD columns n 0)
+      → homeDrop ch k net n ≡ dropIn (ch .bot) (getD columns n 0)
   column-kept k n m q =
       let low = upTo-member highestNet m .1 in
       home-kept ch net far s k n q
-      ∙ sym (ap (dropIn ch) (numbered-at (homeColumn ch far net) 512 e n (omega arith)))
+      ∙ sym (ap (dropIn (ch .bot)) (numbered-at (homeColumn ch far net) 512 e n (omega arith)))
 
   -- the numbers from which steps lead home
   abbrev homing : List ℕ

@@ -13,7 +13,7 @@ pub mod LowestLaws
 pub mod ReturnLaws
 pub mod FewestLaws
 pub mod Code
-pub mod ColumnLaws
+pub mod NearerLaws
 pub mod HomewardLaws
 pub mod KnownLaws
 pub mod NearestLaws

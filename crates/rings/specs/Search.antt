@@ -7,13 +7,14 @@ use mathlib.Core.Bool.{Bool, cond, _&&_}
 use lib.ListN.{length, getD, set, replicate}
 use lib.Seq.{sets}
 use lib.Dec.{T, ltb, eqb}
-use Rattle.lists.specs.Lists.{keep, upTo, headOr, at}
+use Rattle.lists.specs.Lists.{upTo, at}
 use Rattle.lists.specs.Ends.{Rising}
 use Rattle.items.specs.Chains.{Chained}
 use Rattle.items.specs.Steps.{Stepped}
-use Rattle.channel.specs.Channel.{Channel, width, highestNet}
-use Rattle.channel.specs.Constraints.{above, below}
+use Rattle.channel.specs.Channel.{Channel, highestNet}
+use Rattle.channel.specs.Constraints.{below}
 use Rattle.channel.specs.Parked.{NetsOnly}
+use Rattle.leftedge.specs.Ring.{lowestOver}
 use Rattle.rings.specs.Fewest.{leads}
 
 -- the numbers that nets can have
@@ -95,10 +96,6 @@ nearer far home a b =
     cond (eqb b home) (eqb (getD far a 0) 1)
     (ltb 0 (getD far b 0) && eqb (getD far a 0) (suc (getD far b 0)))
 
--- in column c net n is directly above a net that is one step nearer
-unfoldable pub overNearer : Channel → List ℕ → ℕ → ℕ → ℕ → Bool
-overNearer ch far home n c = above ch n (at (ch .bot) c) c && nearer far home n (at (ch .bot) c)
-
--- the lowest such column of net n, 0 if there is none
-unfoldable pub homeColumn : Channel → List ℕ → ℕ → ℕ → ℕ
-homeColumn ch far home n = headOr 0 (keep (overNearer ch far home n) (upTo (width ch)))
+-- the lowest column in which net n is directly above a net that is one step nearer, 0 if there is none
+abbrev pub homeColumn : Channel → List ℕ → ℕ → ℕ → ℕ
+homeColumn ch far home n = lowestOver ch (nearer far home) n

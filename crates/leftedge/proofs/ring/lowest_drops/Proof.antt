@@ -1,6 +1,6 @@
 -- `lowest_drops` meets its contract. The loop's invariant: `columns` has for each number its lowest column past i over
--- an unplaced net. i falls. A turn is `drop-more` where the column is stored and `drop-same` where it is not; at 0,
--- `drop-all` says that these are the lowest of all.
+-- an unplaced net. i falls. A turn is `past-more` where the column is stored and `past-same` where it is not; at 0,
+-- `past-all` says that these are the lowest of all.
 use Prim.Native.Nat.{ℕ, suc, _+_, _-_, _≤_, _<_}
 use native.Mathlib.Omega.{arith}
 use mathlib.Core.Path.{_≡_, ap, _∙_}
@@ -10,13 +10,14 @@ use denote.Ref.{now}
 use Rattle.lists.specs.Ends.{at-suc}
 use Rattle.channel.specs.Channel.{Channel, rows}
 use Rattle.channel.specs.Spans.{each512}
-use Rattle.leftedge.specs.DropLaws.{dropFrom, drop-none, drop-all, drop-more, drop-same}
+use Rattle.leftedge.specs.Ring.{bare}
+use Rattle.leftedge.specs.DropLaws.{lowestPast, past-none, past-all, past-more, past-same}
 use Rattle.leftedge.proofs.ring.lowest_drops.Statement.{statement}
 use Rattle.leftedge.proofs.ring.lowest_drops.Tie as tie
 
 abbrev Inv-loop : tie.InvT-loop
 Inv-loop top bot tracks columns₀ i₀ columns i =
-    (i ≤ length top) × (columns ≡ each512 (dropFrom (rows top bot) tracks i))
+    (i ≤ length top) × (columns ≡ each512 (lowestPast (rows top bot) (bare tracks) i))
 
 abbrev μ-loop : tie.MeasureT-loop
 μ-loop top bot tracks columns₀ i₀ columns i = i
@@ -38,7 +39,7 @@ low c =
     record { upper = omega arith; lower = omega arith }
 
 loop-holds : tie.Need-loop-holds Inv-loop μ-loop
-loop-holds c = (omega arith, drop-none (rows (now (c .args .top)) (now (c .args .bot))) (now (c .args .tracks)))
+loop-holds c = (omega arith, past-none (rows (now (c .args .top)) (now (c .args .bot))) (bare (now (c .args .tracks))))
 
 cast-if1 : tie.Need-cast-if1 Inv-loop μ-loop
 cast-if1 c = omega (arith, low (c .before .before .before))
@@ -66,7 +67,7 @@ loop-again c =
     let ch : Channel = rows (now (a .top)) (now (a .bot)) in (
       omega arith,
       ap (λ (l : List ℕ). set l (getD (now (a .top)) (i - 1) 0) (i - 1 + 1)) (at-loop .loop .inv .1)
-          ∙ drop-more ch (now (a .tracks)) (at-loop .before .pre) i (i - 1) (omega arith) (at-loop .loop .inv .0)
+          ∙ past-more ch (bare (now (a .tracks))) (at-loop .before .pre) i (i - 1) (omega arith) (at-loop .loop .inv .0)
           (low at-loop .upper) (c .if1 .taken),
     )
 
@@ -77,7 +78,7 @@ loop-again-2 c =
     let i = at-loop .loop .i in
     let ch : Channel = rows (now (a .top)) (now (a .bot)) in (
       omega arith,
-      at-loop .loop .inv .1 ∙ drop-same ch (now (a .tracks)) i (i - 1) (omega arith) (at-loop .loop .inv .0)
+      at-loop .loop .inv .1 ∙ past-same ch (bare (now (a .tracks))) i (i - 1) (omega arith) (at-loop .loop .inv .0)
           (c .if1 .left),
     )
 
@@ -86,8 +87,8 @@ returns c =
     let a = c .before .before .args in
     let ch : Channel = rows (now (a .top)) (now (a .bot)) in
     let end : c .before .loop .i ≡ 0 = omega arith in
-    c .before .loop .inv .1 ∙ (ap (λ (i : ℕ). each512 (dropFrom ch (now (a .tracks)) i)) end
-    ∙ drop-all ch (now (a .tracks)))
+    c .before .loop .inv .1 ∙ (ap (λ (i : ℕ). each512 (lowestPast ch (bare (now (a .tracks))) i)) end
+    ∙ past-all ch (bare (now (a .tracks))))
 
 pub lowest-drops-spec : {M : Type 1} → statement M
 lowest-drops-spec =

@@ -1,6 +1,6 @@
 -- `home_columns` meets its contract. The loop's invariant: `columns` has for each number its lowest column past i over
--- a net that is one step nearer. i falls. A turn is `home-more` where the column is stored and `home-same` where it is
--- not; at 0, `home-all` says that these are the lowest of all.
+-- a net that is one step nearer. i falls. A turn is `past-more` where the column is stored and `past-same` where it is
+-- not; at 0, `past-all` says that these are the lowest of all.
 use Prim.Native.Nat.{ℕ, suc, _+_, _-_, _≤_, _<_}
 use native.Mathlib.Omega.{arith}
 use mathlib.Core.Path.{_≡_, ap, _∙_}
@@ -12,13 +12,14 @@ use denote.Ref.{now}
 use Rattle.lists.specs.Ends.{at-suc}
 use Rattle.channel.specs.Channel.{Channel, rows}
 use Rattle.channel.specs.Spans.{each512}
-use Rattle.rings.specs.ColumnLaws.{homeFrom, stepsNearer, home-none, home-all, home-more, home-same}
+use Rattle.leftedge.specs.DropLaws.{lowestPast, stepsWanted, past-none, past-all, past-more, past-same}
+use Rattle.rings.specs.Search.{nearer}
 use Rattle.rings.proofs.fewest.home_columns.Statement.{statement}
 use Rattle.rings.proofs.fewest.home_columns.Tie as tie
 
 abbrev Inv-loop : tie.InvT-loop
 Inv-loop top bot far home columns₀ i₀ columns i =
-    (i ≤ length top) × (columns ≡ each512 (homeFrom (rows top bot) far home i))
+    (i ≤ length top) × (columns ≡ each512 (lowestPast (rows top bot) (nearer far home) i))
 
 abbrev μ-loop : tie.MeasureT-loop
 μ-loop top bot far home columns₀ i₀ columns i = i
@@ -58,13 +59,13 @@ test : (c : tie.After-nearer Inv-loop μ-loop) → let t = c .before .before .be
     let a = start t .args in
     let x = getD (now (a .top)) (t .loop .i - 1) 0 in
     let y = getD (now (a .bot)) (t .loop .i - 1) 0 in
-    stepsNearer (now (a .far)) (a .home) x y
+    stepsWanted (nearer (now (a .far)) (a .home)) x y
     ≡ ((not (eqb x 0) && not (eqb y 0)) && not (eqb x y)) && c .nearer .result
 test c = rw (c .nearer .ensures)
 
 loop-holds : tie.Need-loop-holds Inv-loop μ-loop
 loop-holds c =
-    let s = c .before .before in (omega arith, home-none (channelAt s) (now (s .args .far)) (s .args .home))
+    let s = c .before .before in (omega arith, past-none (channelAt s) (nearer (now (s .args .far)) (s .args .home)))
 
 nearer-requires : tie.Need-nearer-requires Inv-loop μ-loop
 nearer-requires c κs = let p = low (c .before .before) in (omega arith, omega arith)
@@ -78,7 +79,7 @@ loop-again c =
     let pins = low (c .before .before .before .before) in (
       omega arith,
       ap (λ (l : List ℕ). set l (getD (now (a .top)) (i - 1) 0) (i - 1 + 1)) (t .loop .inv .1)
-          ∙ home-more ch (now (a .far)) (a .home) (start t .pre) i (i - 1) (omega arith) (t .loop .inv .0)
+          ∙ past-more ch (nearer (now (a .far)) (a .home)) (start t .pre) i (i - 1) (omega arith) (t .loop .inv .0)
           (pins .upper) (test (c .before) ∙ c .if1 .taken),
     )
 
@@ -89,7 +90,7 @@ loop-again-2 c =
     let i = t .loop .i in
     let ch = channelAt (start t) in (
       omega arith,
-      t .loop .inv .1 ∙ home-same ch (now (a .far)) (a .home) i (i - 1) (omega arith) (t .loop .inv .0)
+      t .loop .inv .1 ∙ past-same ch (nearer (now (a .far)) (a .home)) i (i - 1) (omega arith) (t .loop .inv .0)
           (test (c .before) ∙ c .if1 .left),
     )
 
@@ -98,8 +99,8 @@ returns c =
     let s = start (c .before) in
     let a = s .args in
     let end : c .before .loop .i ≡ 0 = omega arith in
-    c .before .loop .inv .1 ∙ (ap (λ (i : ℕ). each512 (homeFrom (channelAt s) (now (a .far)) (a .home) i)) end
-    ∙ home-all (channelAt s) (now (a .far)) (a .home))
+    c .before .loop .inv .1 ∙ (ap (λ (i : ℕ). each512 (lowestPast (channelAt s) (nearer (now (a .far)) (a .home)) i)) end
+    ∙ past-all (channelAt s) (nearer (now (a .far)) (a .home)))
 
 pub home-columns-spec : {M : Type 1} → statement M
 home-columns-spec =

@@ -4,7 +4,7 @@ use borrow.Author.Needs.{needs}
 use native.Mathlib.Omega.{arith}
 use mathlib.Core.Path.{sym}
 use denote.Ref.{now}
-use Rattle.rings.specs.ColumnLaws.{nearer-home, nearer-tested}
+use Rattle.rings.specs.NearerLaws.{nearer-home, nearer-tested}
 use Rattle.rings.proofs.fewest.nearer.Statement.{statement}
 use Rattle.rings.proofs.fewest.nearer.Tie as tie
 
