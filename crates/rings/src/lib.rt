@@ -18,8 +18,8 @@ pub enum RingAnswer {
 }
 
 // The ring with the fewest nets of rows of any lengths and numbers, its pairs at the front of `ring`, net and column;
-// of several the lowest list, each begun at its lowest net. Or that there is no ring; or refusals 1, 3 to 5. But under
-// a ring, `ring` stays as it was.
+// of several the lowest list, each begun at its lowest net. Or that there is no ring, or refusals 1, 3 to 5: then `ring`
+// stays as it was.
 pub fn fewest_ring(top: &[u32], bot: &[u32], ring: &mut [u32]) -> RingAnswer
     ensures { λ r.
         ⌜ FewestDone (rows (now (top .entry)) (now (bot .entry))) (now (ring .entry)) r (now (ring .exit)) ⌝ }
