@@ -164,8 +164,8 @@ def fewest_ring(top, bot, ring=RING):
         raise Refused(1, RING)
     check(top, bot)
     steps = steps_of(top, bot)
-    # reached[k][n] has the bit of each net to which k steps down lead from net n; fewer lead back to n than there are
-    # nets, if any do
+    # reached[k][n] has the bit of each net to which k steps down lead from net n; if steps lead a net back to itself, so
+    # do some that are no more than there are nets
     reached = [{n: 1 << n for n in {*top, *bot}}]
     for _ in columns_of(top, bot):
         further = dict.fromkeys(reached[0], 0)

@@ -1,12 +1,10 @@
 // The fewest steps down to one net from every other, by a breadth-first search against the steps.
-ghost use mathlib.Core.Path.{_≡_};
 ghost use Prim.Native.Nat.{ℕ};
 ghost use mathlib.Core.List.{List, map};
 ghost use Rattle.lists.specs.Lists.{at};
 ghost use Rattle.items.specs.Chains.{Chained};
 ghost use Rattle.items.specs.Steps.{Stepped};
 ghost use Rattle.rings.specs.Search.{numbers, CanNote, NoteDone, Searchable, Searched};
-use grid::NET_SLOTS;
 
 // Notes `distance` for the upper net of each place linked from `start` that has none yet, and puts it behind the first
 // `queued` of the queue. Answers how many there are then.
