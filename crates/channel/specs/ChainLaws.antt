@@ -49,7 +49,7 @@ descends-next {Over} (next {s = s} {t = t} h d) m =
     (λ k. let r = descends-next d k in (r .0, r .1, r .2, ⊎-elim inl (λ i. inr (List·Memᴰ·tail i)) (r .3)))
     (List·Memᴰ·cases-cons m)
 
-descends-member : {Over : ℕ → ℕ → ℕ → Type 0} {end : ℕ} {steps : List Step} → Descends Over end steps
+pub descends-member : {Over : ℕ → ℕ → ℕ → Type 0} {end : ℕ} {steps : List Step} → Descends Over end steps
     → (n : ℕ) × List·Memᴰ n (netsOf steps)
 descends-member (last {s = s} h) = (s .net, List·Memᴰ·head refl)
 descends-member (next {s = s} h d) = (s .net, List·Memᴰ·head refl)
@@ -146,6 +146,31 @@ module _ (ch : Channel) (esc : Escapes ch) where
         let deep = path≤depth (suc (length (nets ch))) p (omega arith) in
         let counted = greatest-map-upper (depth (suc (length (nets ch))) ch) (path-start-spans esc p) in
         omega arith
+
+module _ {ch : Channel} (esc : Escapes ch) (untangled : Tangled ch → ⊥) where
+  -- without a ring no net is deeper than the chain, and some net is as deep
+  pub depth≤chain : (fuel n : ℕ) → List·Memᴰ n (spanning ch) → depth fuel ch n ≤ chain ch
+  depth≤chain fuel n s =
+      elim (decLt 0 (depth fuel ch n)) [
+        | yes h ↦
+            (let p = depth-path ch esc fuel n s h in
+            chain-most ch esc untangled (depth fuel ch n) n (p .0) (p .1))
+        | no h ↦ omega arith
+      ]
+
+  pub chain-deep : 0 < chain ch → (n : ℕ) × List·Memᴰ n (spanning ch) × (chain ch ≤ depth (chain ch) ch n)
+  chain-deep h =
+      let p = chain-reached ch esc untangled h in
+      (p .0, path-start-spans esc (p .2), path≤depth (chain ch) (p .2) (omega arith))
+
+-- a net whose depth never ends is on a ring or above one
+pub endless-tangled : {ch : Channel} → Escapes ch → (n : ℕ) → List·Memᴰ n (spanning ch)
+    → ((fuel : ℕ) → fuel ≤ depth fuel ch n) → (Tangled ch → ⊥) → ⊥
+endless-tangled {ch} esc n s deep untangled =
+    let long = deep (suc (length (nets ch))) in
+    let p = depth-path ch esc (suc (length (nets ch))) n s (omega arith) in
+    let few = path≤nets esc untangled (p .1) in
+    omega arith
 
 -- the depth of a net is that of an item
 depth-by : (ch : Channel) (fuel n : ℕ) → depth fuel ch n ≡ depthBy (below ch) fuel n

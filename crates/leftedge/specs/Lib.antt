@@ -8,6 +8,7 @@ pub mod Invariants
 pub mod TrackLaws
 pub mod ScanLaws
 pub mod FillLaws
+pub mod HalfLaws
 pub mod LookLaws
 pub mod WalkLaws
 pub mod SpanFill

@@ -1,22 +1,25 @@
 -- The fill of a channel's nets: what `FilledBy` and `StuckWith` say in the words of nets, spans and rings.
-use Prim.Native.Nat.{ℕ, _≤_}
+use Prim.Native.Nat.{ℕ, zero, suc, _≤_, _<_}
 use native.Mathlib.Omega.{arith}
 use mathlib.Core.Path.{_≡_, subst}
-use mathlib.Core.List.{List}
+use mathlib.Core.List.{List, List·Memᴰ}
+use mathlib.Core.Logic.{_⊎_, inl, inr, ⊎-elim}
 use lib.ListN.{length}
 use Rattle.lists.specs.Ranges.{no-member→empty}
 use Rattle.lists.specs.Pigeonhole.{pigeonhole}
 use Rattle.channel.specs.Channel.{Channel, width, firstColumn, lastColumn, nets, spanning}
 use Rattle.channel.specs.Density.{density}
-use Rattle.channel.specs.Constraints.{drops, Above, Step, netsOf, Descends, last, next, Ring}
+use Rattle.channel.specs.Constraints.{drops, Above, Step, netsOf, Descends, last, next, Ring, Tangled}
 use Rattle.channel.specs.Constraints.{Unconstrained}
 use Rattle.channel.specs.Answers.{Escapes}
-use Rattle.channel.specs.Laws.{drop→above}
-use Rattle.channel.specs.SpanLaws.{spanning→, →nets}
+use Rattle.channel.specs.Laws.{drop→above, above→drop}
+use Rattle.channel.specs.SpanLaws.{spanning→, →nets, upper-spans}
+use Rattle.channel.specs.ChainLaws.{descends-member, ring-next}
 use Rattle.items.specs.DensityLaws.{densest-within}
 use Rattle.channel.specs.DensityLaws.{density-densest}
-use Rattle.leftedge.specs.Items.{Place}
+use Rattle.leftedge.specs.Items.{Place, trackOf}
 use Rattle.leftedge.specs.Fill.{filled, stuck}
+use Rattle.leftedge.specs.FillEnds.{filled-or-stuck}
 use Rattle.leftedge.specs.Walk.{ringOf}
 use Rattle.leftedge.specs.Looks.{itemLooks, ceiling}
 use Rattle.leftedge.specs.LookLaws.{looks-few}
@@ -25,7 +28,7 @@ use Rattle.leftedge.specs.Invariants.{Falls, FilledBy, StuckWith}
 use Rattle.leftedge.specs.FillLaws.{fill-filled, fill-stuck}
 use Rattle.leftedge.specs.WalkLaws.{walk-ring}
 use Rattle.leftedge.specs.SpanFill.{Spanning, tracks≤density as fewest}
-use Rattle.leftedge.specs.NetLaws.{nets-orderly, order→spanning, starts-inside}
+use Rattle.leftedge.specs.NetLaws.{nets-orderly, order→spanning, spanning→order, starts-inside}
 use Rattle.leftedge.specs.NetLaws.{order-length, before-starts, →fits-after}
 use Rattle.leftedge.specs.NetLaws.{falls→above}
 
@@ -54,6 +57,30 @@ module _ (ch : Channel) (esc : Escapes ch) where
   stuck-ring left e =
       let r = walk-ring (netItems ch) left (nets-stuck left e) in
       record { distinct = r .distinct; closed = falls→descends (r .closed) }
+
+  -- a channel that is filled has no ring: along one the tracks would fall without end
+  pub filled-untangled : (t : ℕ) (ps : List Place) → fill ch ≡ filled t ps → Tangled ch → ⊥
+  unfolding netItems
+  filled-untangled t ps e (steps, ring) =
+      let a = descends-member (ring .closed) in
+      falls (trackOf ps (a .0)) (a .0) (a .1) (omega arith)
+    where
+      lower : (a : ℕ) → List·Memᴰ a (netsOf steps)
+          → (b : ℕ) × List·Memᴰ b (netsOf steps) × (trackOf ps b < trackOf ps a)
+      lower a m =
+          let r = ring-next ring m in
+          let inside = spanning→order ch (esc .even) a (upper-spans ch esc (r .2)) in
+          (r .0, r .3, nets-filled t ps e .lower a (r .0) (r .1) inside (above→drop ch a (r .0) (r .1) (r .2)))
+
+      falls : (k a : ℕ) → List·Memᴰ a (netsOf steps) → trackOf ps a ≤ k → ⊥
+      falls zero a m h = let r = lower a m in let l = r .2 in omega arith
+      falls (suc k) a m h = let r = lower a m in let l = r .2 in falls k (r .0) (r .1) (omega arith)
+
+  -- a channel is tangled or not: its fill tells
+  pub tangled? : Tangled ch ⊎ (Tangled ch → ⊥)
+  tangled? =
+      ⊎-elim (λ r. inr (filled-untangled (r .0) (r .1) (r .2)))
+      (λ r. inl (ringOf (netItems ch) (r .0), stuck-ring (r .0) (r .1))) (filled-or-stuck (fill ch))
 
   -- and has no more steps than there are nets
   pub ring-length : (left : List ℕ) → fill ch ≡ stuck left

@@ -35,6 +35,19 @@ module _ {A : Type 0} (f : A → ℕ) where
             (r .0, List·Memᴰ·tail (r .1), omega arith))
       ]
 
+pub member≤greatest : {xs : List ℕ} {x : ℕ} → List·Memᴰ x xs → x ≤ greatest xs
+unfolding greatest
+member≤greatest {xs = y ∷ ys} (List·Memᴰ·head e) = omega arith
+member≤greatest {xs = y ∷ ys} (List·Memᴰ·tail m) = let h = member≤greatest m in omega arith
+
+pub greatest-least : (xs : List ℕ) (k : ℕ) → ((x : ℕ) → List·Memᴰ x xs → x ≤ k) → greatest xs ≤ k
+unfolding greatest
+greatest-least [] k h = omega arith
+greatest-least (y ∷ ys) k h =
+    let here = h y (List·Memᴰ·head refl) in
+    let rest = greatest-least ys k (λ x m. h x (List·Memᴰ·tail m)) in
+    omega arith
+
 -- no place of a row has more than its greatest, which is at most what each is at most
 pub at≤greatest : (row : List ℕ) (k : ℕ) → at row k ≤ greatest row
 unfolding at greatest

@@ -24,3 +24,4 @@ pub mod Runs
 pub mod Maps
 pub mod Tables
 pub mod Fronts
+pub mod Parts

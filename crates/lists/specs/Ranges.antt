@@ -2,11 +2,11 @@
 -- and how long `each` is.
 use Prim.Native.Nat.{ℕ, zero, suc, _*_, _<_}
 use native.Mathlib.Omega.{arith}
-use mathlib.Core.Path.{_≡_, refl, sym, ap, subst}
+use mathlib.Core.Path.{_≡_, refl, sym, _∙_, ap, subst}
 use mathlib.Core.List.{List, [], _∷_, map, List·Memᴰ, List·Memᴰ·head, List·Memᴰ·tail, List·Memᴰ·not-nil}
 use mathlib.Core.Bool.{Bool, true, false, cond}
 use mathlib.Core.Option.{Option, some, Option·none-ne-some, Option·some-injective}
-use lib.ListN.{length, length-append, getElem?}
+use lib.ListN.{length, length-append, length-map, getElem?}
 use lib.Dec.{T}
 use Rattle.lists.specs.Lists.{keep, each}
 use Rattle.lists.specs.Members.{keep-member, kept}
@@ -45,14 +45,18 @@ module _ {A : Type 0} where
       let r = length-each n f xs h in let e = h x in omega (arith, length-append (f x) (each f xs))
 
   -- keeping after `map` is keeping before it
+  pub keep-map : {B : Type 0} (f : B → Bool) (g : A → B) (xs : List A)
+      → keep f (map g xs) ≡ map g (keep (λ x. f (g x)) xs)
+  unfolding keep
+  keep-map f g [] = refl
+  keep-map {B} f g (x ∷ xs) = go (f (g x)) (keep-map f g xs)
+    where
+      go : (b : Bool) → keep f (map g xs) ≡ map g (keep (λ y. f (g y)) xs)
+          → cond b (g x ∷ keep f (map g xs)) (keep f (map g xs))
+          ≡ map g (cond b (x ∷ keep (λ y. f (g y)) xs) (keep (λ y. f (g y)) xs))
+      go true e = ap (λ (l : List B). g x ∷ l) e
+      go false e = e
+
   pub length-keep-map : {B : Type 0} (f : B → Bool) (g : A → B) (xs : List A)
       → length (keep f (map g xs)) ≡ length (keep (λ x. f (g x)) xs)
-  unfolding keep
-  length-keep-map f g [] = refl
-  length-keep-map f g (x ∷ xs) = go (f (g x)) (length-keep-map f g xs)
-    where
-      go : (b : Bool) → length (keep f (map g xs)) ≡ length (keep (λ y. f (g y)) xs)
-          → length (cond b (g x ∷ keep f (map g xs)) (keep f (map g xs))) ≡ length
-          (cond b (x ∷ keep (λ y. f (g y)) xs) (keep (λ y. f (g y)) xs))
-      go true e = ap suc e
-      go false e = e
+  length-keep-map f g xs = ap length (keep-map f g xs) ∙ length-map (keep (λ x. f (g x)) xs) g

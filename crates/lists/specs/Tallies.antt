@@ -4,11 +4,11 @@ use Prim.Native.Nat.{ℕ, zero, suc, _+_, _≤_, _<_}
 use native.Mathlib.Omega.{arith}
 use native.Mathlib.Numerals.{add-one}
 use mathlib.Core.Path.{_≡_, refl, sym, _∙_, ap}
-use mathlib.Core.List.{List, [], _∷_, _++_, List·Memᴰ, List·Memᴰ·head, List·Memᴰ·tail}
+use mathlib.Core.List.{List, [], _∷_, _++_, map, List·Memᴰ, List·Memᴰ·head, List·Memᴰ·tail}
 use mathlib.Core.Bool.{Bool, true, false, cond}
 use lib.ListN.{length, getD, set, length-append}
 use lib.Dec.{T}
-use Rattle.lists.specs.Lists.{keep, anyOf, upTo, headOr, Lowest}
+use Rattle.lists.specs.Lists.{keep, anyOf, allOf, upTo, headOr, Lowest}
 use Rattle.lists.specs.Firsts.{Passing, NonePasses, FirstKept, no-one, begins, first-kept}
 
 -- the first of 1 to n that passes, 0 if none does
@@ -86,6 +86,14 @@ module _ {A : Type 0} where
   any-same f g [] h = refl
   any-same f g (x ∷ xs) h =
       let r = any-same f g xs (λ y m. h y (List·Memᴰ·tail m)) in let e = h x (List·Memᴰ·head refl) in rw (e, r)
+
+  -- a test of what f gives passes of all together with one of the members that agrees with it
+  pub all-map : {B : Type 0} (f : A → B) (p : B → Bool) (q : A → Bool) (xs : List A)
+      → ((x : A) → List·Memᴰ x xs → p (f x) ≡ q x) → allOf p (map f xs) ≡ allOf q xs
+  unfolding allOf
+  all-map f p q [] h = refl
+  all-map f p q (x ∷ xs) h =
+      let r = all-map f p q xs (λ y m. h y (List·Memᴰ·tail m)) in let e = h x (List·Memᴰ·head refl) in rw (e, r)
 
   pub keep-append : (f : A → Bool) (xs ys : List A) → keep f (xs ++ ys) ≡ keep f xs ++ keep f ys
   unfolding keep

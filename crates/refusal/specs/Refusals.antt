@@ -19,9 +19,11 @@ use Rattle.refusal.specs.declared.Refusal.the-variants.{
   NoBlank,
   BadTable,
   NoStock,
+  PanelFull,
 }
 
--- the column "No"; 02, Req 04: "Refusal 6 is no longer given"; Req 03: "15, bad table", "16, no stock"
+-- the column "No"; 02, Req 04: "Refusal 6 is no longer given"; Req 03: "15, bad table", "16, no stock"; Req 09: "18,
+-- panel full"
 abbrev pub numberOf : Refusal → ℕ
 numberOf (ShortTray p) = 1
 numberOf (Garbled p) = 2
@@ -35,6 +37,7 @@ numberOf (WrongBoard p) = 10
 numberOf (NoBlank p) = 14
 numberOf (BadTable p) = 15
 numberOf (NoStock p) = 16
+numberOf (PanelFull p) = 18
 
 -- the place that the column "Given when; place" names
 abbrev pub placeOf : Refusal → ℕ
@@ -50,6 +53,7 @@ placeOf (WrongBoard p) = p
 placeOf (NoBlank p) = p
 placeOf (BadTable p) = p
 placeOf (NoStock p) = p
+placeOf (PanelFull p) = p
 
 -- an answer in 01's numbers: the refusal's or fault's number and its place, or 0 and the values answered
 pub record Told : Type 0 where

@@ -15,7 +15,7 @@ use Rattle.lists.specs.Ranges.{no-member→empty}
 use Rattle.refusal.specs.declared.Refusal.{Refusal}
 use Rattle.refusal.specs.declared.Refusal.the-variants.{ShortTray, Garbled, TooWide, Uneven, HighNet}
 use Rattle.refusal.specs.declared.Refusal.the-variants.{Tangled, Torn, BadField, WrongBoard}
-use Rattle.refusal.specs.declared.Refusal.the-variants.{NoBlank, BadTable, NoStock}
+use Rattle.refusal.specs.declared.Refusal.the-variants.{NoBlank, BadTable, NoStock, PanelFull}
 use Rattle.refusal.specs.Refusals.{numberOf}
 use Rattle.refusal.specs.ChainLaws.{refuse-at-first-none, none-refuse-at-first}
 use Rattle.refusal.specs.Trays.{Tray, shortTray}
@@ -59,3 +59,4 @@ refusal-numbered (WrongBoard p) = omega arith
 refusal-numbered (NoBlank p) = omega arith
 refusal-numbered (BadTable p) = omega arith
 refusal-numbered (NoStock p) = omega arith
+refusal-numbered (PanelFull p) = omega arith

@@ -13,7 +13,7 @@ pub const BOARD_TRAY: usize = 10240;
 
 pub const SCRATCH_TRAY: usize = 5119;
 
-// The refusals that an operation may answer, by the shop's words, each with its place. Number 6 is not in use.
+// The refusals that an operation may answer, by the shop's words, each with its place. Numbers 6 and 17 are not in use.
 // The judge's faults, numbers 11 to 13, are an enum of their own beside the judge.
 pub enum Refusal {
     // 1: a lent buffer is too short; the length needed
@@ -40,6 +40,8 @@ pub enum Refusal {
     BadTable(usize),
     // 16: no entry of a table of blanks holds so many tracks; the tracks
     NoStock(usize),
+    // 18: on a panel a raised net number is over 511; the lowest such number
+    PanelFull(usize),
 }
 
 // The number of a refusal in the shop's table.
@@ -59,6 +61,7 @@ pub fn number_of(refusal: Refusal) -> u32
         Refusal::NoBlank(_) => 14,
         Refusal::BadTable(_) => 15,
         Refusal::NoStock(_) => 16,
+        Refusal::PanelFull(_) => 18,
     }
 }
 
@@ -79,5 +82,6 @@ pub fn place_of(refusal: Refusal) -> usize
         Refusal::NoBlank(place) => place,
         Refusal::BadTable(place) => place,
         Refusal::NoStock(place) => place,
+        Refusal::PanelFull(place) => place,
     }
 }

@@ -9,7 +9,7 @@ use lib.ListN.{length, take}
 use Rattle.lists.specs.Lists.{Lowest}
 use Rattle.refusal.specs.Trays.{Tray, ringTray, boardTray}
 use Rattle.grid.specs.Pieces.{Layout}
-use Rattle.channel.specs.Channel.{Channel, withoutParked, nets, spanning}
+use Rattle.channel.specs.Channel.{Channel, rows, width, widest, withoutParked, nets, spanning}
 use Rattle.channel.specs.Density.{density}
 use Rattle.channel.specs.Constraints.{chain, Tangled, Unconstrained}
 use Rattle.channel.specs.Answers.{Escapes, boundsAnswer, boundsTold}
@@ -18,6 +18,11 @@ use Rattle.wiring.specs.Layouts.{Good, OneTrunkEach}
 use Rattle.leftedge.specs.Looks.{ceiling}
 use Rattle.rings.specs.Answers.{fewestAnswer, fewestAfter, fewestTold}
 use Rattle.rings.specs.Promise.{FewestPromise}
+use Rattle.panel.specs.Joined.{Fits}
+use Rattle.panel.specs.Answers as panel
+use Rattle.panel.specs.Answers.{joinAnswer, joinTold}
+use Rattle.panel.specs.Promise.{PanelPromise, RaisedOver}
+use Rattle.panel.specs.Code.{LongRows}
 use Rattle.pinlist.specs.Answers.{readAnswer, readTold, topAfter, botAfter}
 use Rattle.boardfile.specs.Open.{fileLayout}
 use Rattle.judge.specs.Answers.{judgeRefusal, judgeAnswer, judgeTold}
@@ -85,6 +90,18 @@ pub record FewestEntry (ch : Channel) (ring : List ℕ) (r : ℕ) (ring′ : Lis
   pub ringHeld : ring′ ≡ fewestAfter ch ring
   pub accepted : (refusalIn r ≡ 0) ↔ ((ringTray ≤ length ring) × Escapes ch)
   pub promise : refusalIn r ≡ 0 → FewestPromise ch (placeIn r) ring ring′
+
+-- Req 09 of 02, of the number r and of the rows that the caller then holds. Rules out: a tangled list refused
+-- (accepted); the first raised number over 511 told for the lowest (full); 0 raised (promise)
+pub record JoinEntry (ch dh : Channel) (top bot : List ℕ) (r : ℕ) (top′ bot′ : List ℕ) : Type 0 where
+  pub answer : r ≡ entryNumber (joinTold (joinAnswer (length top) (length bot) ch dh))
+  pub decoded : Decoded (joinTold (joinAnswer (length top) (length bot) ch dh)) r
+  pub topHeld : top′ ≡ panel.topAfter ch dh top bot
+  pub botHeld : bot′ ≡ panel.botAfter ch dh top bot
+  pub accepted : (refusalIn r ≡ 0) ↔ (LongRows top bot × Fits ch dh)
+  pub full : LongRows top bot → Escapes ch → Escapes dh → width ch + width dh ≤ widest
+      → (p : ℕ) → ((refusalIn r ≡ 18) × (placeIn r ≡ p)) ↔ Lowest (RaisedOver ch dh) p
+  pub promise : refusalIn r ≡ 0 → PanelPromise ch dh (rows (take (placeIn r) top′) (take (placeIn r) bot′))
 
 -- Req 07 of 02, of the number r. Rules out: a tangled channel refused (accepted); its last, empty scan not counted
 -- (promise)

@@ -9,13 +9,15 @@ use mathlib.Core.Bool.{cond}
 use mathlib.Core.Option.{Option, none, some}
 use lib.ListN.{length, take}
 use lib.Dec.{eqb}
-use Rattle.lists.specs.Lists.{headOr}
-use Rattle.refusal.specs.Refusals.{toldValues}
+use Rattle.lists.specs.Lists.{headOr, Lowest}
+use Rattle.refusal.specs.declared.Refusal.{Refusal}
+use Rattle.refusal.specs.Refusals.{numberOf, placeOf, toldValues, toldBy}
+use Rattle.refusal.specs.ChainLaws.{answered-none}
 use Rattle.refusal.specs.TrayLaws.{refusal-numbered}
 use Rattle.refusal.specs.ToldLaws.{told-success}
 use Rattle.refusal.specs.Trays.{ringTray, boardTray}
 use Rattle.channel.specs.declared.BoundsAnswer.the-variants as bounds
-use Rattle.channel.specs.Channel.{Channel, spanning}
+use Rattle.channel.specs.Channel.{Channel, width, widest, spanning}
 use Rattle.channel.specs.Density.{density}
 use Rattle.channel.specs.Constraints.{chain}
 use Rattle.channel.specs.Answers.{Escapes, rowsRefusal, boundsAnswer, boundsTold}
@@ -39,6 +41,15 @@ use Rattle.rings.specs.Promise.{FewestPromise}
 use Rattle.rings.specs.Code.{FewestDone}
 use Rattle.rings.specs.FewestLaws.{fewest-few}
 use Rattle.rings.specs.AnswerLaws.{fewest-told, fewest-accepted, counted}
+use Rattle.panel.specs.declared.JoinAnswer.{JoinAnswer}
+use Rattle.panel.specs.declared.JoinAnswer.the-variants as joining
+use Rattle.panel.specs.Joined.{Fits}
+use Rattle.panel.specs.Answers.{joinRefusal, joinAnswer, joinTold}
+use Rattle.panel.specs.Promise.{RaisedOver}
+use Rattle.panel.specs.Code.{LongRows, JoinDone}
+use Rattle.panel.specs.JoinLaws.{highest-low}
+use Rattle.panel.specs.OverLaws.{over-small}
+use Rattle.panel.specs.AnswerLaws.{join-told, join-accepted, width-told}
 use Rattle.boardfile.specs.Open.{fileTracks, fileLayout}
 use Rattle.judge.specs.declared.Fault.{Fault}
 use Rattle.judge.specs.declared.Fault.the-variants.{Short, Open, Floating}
@@ -71,6 +82,7 @@ use Rattle.router.specs.Progress.{looksAnswer, ceilingAnswer, looksTold}
 use Rattle.router.specs.ProgressLaws.{looks-told, ceiling-told, ceiling-small}
 use Rattle.screen_api.specs.Numbers.{packed, entryNumber, refusalIn, placeIn, tracksIn, piecesIn}
 use Rattle.screen_api.specs.NumberLaws.{
+  eighteen,
   value-number,
   pair-number,
   decoded,
@@ -88,6 +100,7 @@ use Rattle.screen_api.specs.Code.{
   RouteNumberPromise,
   RouteEntry,
   FewestEntry,
+  JoinEntry,
   LooksEntry,
   CeilingEntry,
   FaultNumbers,
@@ -261,6 +274,79 @@ module _ {ch : Channel} {ring ring′ : List ℕ} {a : RingAnswer} (done : Fewes
   pub fewest-none : a ≡ rings.NoRing → FewestEntry ch ring 0 ring′
   unfolding fewestTold
   fewest-none q = fewest-entry (rw q (value-number (omega arith)))
+
+-- two lists on one panel
+module _ {ch dh : Channel} {top bot top′ bot′ : List ℕ} {a : JoinAnswer} (done : JoinDone ch dh top bot a top′ bot′)
+    {r : ℕ} (e : r ≡ entryNumber (joinTold a)) where
+  abbrev refusal : Option Refusal
+  refusal = joinRefusal (length top) (length bot) ch dh
+
+  by-refusal : r ≡ entryNumber (toldBy refusal ((width ch + width dh) ∷ []))
+  by-refusal =
+      e ∙ ap (λ x. entryNumber (joinTold x)) (done .answer)
+      ∙ ap entryNumber (join-told (length top) (length bot) ch dh)
+
+  accepted : (refusalIn r ≡ 0) ↔ (LongRows top bot × Fits ch dh)
+  accepted = Iff·trans (zero-exactly refusal _ by-refusal) (join-accepted ch dh top bot)
+
+  -- where 0 is read, the width comes back
+  width-read : refusalIn r ≡ 0 → a ≡ joining.Width (placeIn r)
+  unfolding joinAnswer
+  width-read h =
+      let fits = accepted .0 h in
+      let narrow = fits .1 .columns in
+      let back = value-back (zero→values refusal _ by-refusal h) (omega arith) in
+      done .answer ∙ (answered-none joining.Refused refusal (joining.Width (width ch + width dh))
+      (join-accepted ch dh top bot .1 fits) ∙ ap joining.Width (sym back))
+
+  module _ (long : LongRows top bot) (esc₁ : Escapes ch) (esc₂ : Escapes dh) (narrow : width ch + width dh ≤ widest)
+      (p : ℕ) where
+    place-small : {n : ℕ} → Lowest (RaisedOver ch dh) n → n ≤ 1022
+    place-small l = over-small ch dh (highest-low esc₁) (highest-low esc₂) (l .holds)
+
+    full-read : (b : JoinAnswer) → a ≡ b → refusalIn r ≡ 18 → placeIn r ≡ p → Lowest (RaisedOver ch dh) p
+    unfolding joinTold
+    full-read (joining.Width w) q n h =
+        let z = decoded (e ∙ ap (λ x. entryNumber (joinTold x)) q) .number in absurd (omega arith)
+    full-read (joining.Refused f) q n h =
+        let by = e ∙ ap (λ x. entryNumber (joinTold x)) q in
+        let d = decoded by in
+        let number = d .number in
+        let is = eighteen f (sym number ∙ n) in
+        let l = done .full-exactly long esc₁ esc₂ narrow (placeOf f) .0 (q ∙ ap joining.Refused is) in
+        let small = place-small l in
+        let back = place-back (numberOf f) by (omega arith) in
+        subst (Lowest (RaisedOver ch dh)) (sym back ∙ h) l
+
+    full-told : Lowest (RaisedOver ch dh) p → (refusalIn r ≡ 18) × (placeIn r ≡ p)
+    unfolding joinTold
+    full-told l =
+        let q = done .full-exactly long esc₁ esc₂ narrow p .1 l in
+        let by = e ∙ ap (λ x. entryNumber (joinTold x)) q in
+        let small = place-small l in
+        (decoded by .number, place-back 18 by (omega arith))
+
+  pub join-entry : JoinEntry ch dh top bot r top′ bot′
+  join-entry =
+      let answer = e ∙ ap (λ x. entryNumber (joinTold x)) (done .answer) in
+      record {
+        answer = answer;
+        decoded = decoded answer;
+        topHeld = done .topHeld;
+        botHeld = done .botHeld;
+        accepted = accepted;
+        full = λ long esc₁ esc₂ narrow p. (
+          λ h. full-read long esc₁ esc₂ narrow p a refl (h .0) (h .1),
+          full-told long esc₁ esc₂ narrow p,
+        );
+        promise = λ h. done .promise (placeIn r) (width-read h);
+      }
+
+pub join-width : {ch dh : Channel} {top bot top′ bot′ : List ℕ} {a : JoinAnswer} → JoinDone ch dh top bot a top′ bot′
+    → {w : ℕ} → a ≡ joining.Width w → JoinEntry ch dh top bot w top′ bot′
+unfolding joinTold
+join-width done {w} q =
+    let small = width-told done q in join-entry done (rw q (value-number (omega arith)))
 
 -- looks and their ceiling
 module _ (ch : Channel) where

@@ -1,8 +1,8 @@
 -- What C reads in an entry's number is what was answered, and values that fit are their own number. Refusals have
--- numbers of at most 16, so that one with its place fits 64 bits.
+-- numbers of at most 18, so that one with its place fits 64 bits.
 use Prim.Native.Nat.{ℕ, _+_, _*_, _/_, _%_, _≤_, _<_}
 use native.Mathlib.Omega.{arith}
-use mathlib.Core.Path.{_≡_, sym, _∙_}
+use mathlib.Core.Path.{_≡_, refl, sym, _∙_}
 use mathlib.Core.List.{List, [], _∷_}
 use mathlib.Core.Logic.{_↔_}
 use mathlib.Core.Option.{Option, none}
@@ -20,12 +20,13 @@ use Rattle.refusal.specs.declared.Refusal.the-variants.{
   NoBlank,
   BadTable,
   NoStock,
+  PanelFull,
 }
-use Rattle.refusal.specs.Refusals.{numberOf, Told, toldAt, toldValues, toldBy}
+use Rattle.refusal.specs.Refusals.{numberOf, placeOf, Told, toldAt, toldValues, toldBy}
 use Rattle.refusal.specs.ToldLaws.{told-zero}
 use Rattle.screen_api.specs.Numbers.{packed, entryNumber, refusalIn, placeIn, tracksIn, piecesIn, Decoded}
 
-pub refusal-small : (r : Refusal) → numberOf r ≤ 16
+pub refusal-small : (r : Refusal) → numberOf r ≤ 18
 refusal-small (ShortTray p) = omega arith
 refusal-small (Garbled p) = omega arith
 refusal-small (TooWide p) = omega arith
@@ -38,6 +39,23 @@ refusal-small (WrongBoard p) = omega arith
 refusal-small (NoBlank p) = omega arith
 refusal-small (BadTable p) = omega arith
 refusal-small (NoStock p) = omega arith
+refusal-small (PanelFull p) = omega arith
+
+-- 18 is the number of one refusal alone
+pub eighteen : (r : Refusal) → numberOf r ≡ 18 → r ≡ PanelFull (placeOf r)
+eighteen (ShortTray p) e = absurd (omega arith)
+eighteen (Garbled p) e = absurd (omega arith)
+eighteen (TooWide p) e = absurd (omega arith)
+eighteen (Uneven p) e = absurd (omega arith)
+eighteen (HighNet p) e = absurd (omega arith)
+eighteen (Tangled p) e = absurd (omega arith)
+eighteen (Torn p) e = absurd (omega arith)
+eighteen (BadField p) e = absurd (omega arith)
+eighteen (WrongBoard p) e = absurd (omega arith)
+eighteen (NoBlank p) e = absurd (omega arith)
+eighteen (BadTable p) e = absurd (omega arith)
+eighteen (NoStock p) e = absurd (omega arith)
+eighteen (PanelFull p) e = refl
 
 -- values that fit
 pub value-number : {v : ℕ} → v < 4294967296 → v ≡ entryNumber (toldValues (v ∷ []))

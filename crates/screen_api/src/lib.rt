@@ -8,11 +8,12 @@ ghost use Rattle.channel.specs.Channel.{rows};
 ghost use Rattle.judge.specs.Answers.{faultNumber, faultPlace};
 ghost use Rattle.screen_api.specs.Numbers.{entryNumber};
 ghost use Rattle.screen_api.specs.Code.{ReadEntry, BoundsEntry, RouteEntry, LooksEntry, CeilingEntry};
-ghost use Rattle.screen_api.specs.Code.{FewestEntry, JudgeEntry, BlankEntry, OwnBlankEntry};
+ghost use Rattle.screen_api.specs.Code.{FewestEntry, JoinEntry, JudgeEntry, BlankEntry, OwnBlankEntry};
 use blanks::BlankAnswer;
 use channel::BoundsAnswer;
 use judge::Fault;
 use judge::JudgeAnswer;
+use panel::JoinAnswer;
 use pinlist::ReadAnswer;
 use refusal::Refusal;
 use rings::RingAnswer;
@@ -21,7 +22,7 @@ use router::RouteAnswer;
 
 // A number of the table and its place, in one number.
 fn numbered_at(number: u32, place: usize) -> u64
-    requires { ⌜ number ≤ 16 ⌝ }
+    requires { ⌜ number ≤ 18 ⌝ }
     ensures { λ r. ⌜ r ≡ entryNumber (toldAt number place) ⌝ }
 {
     let shown = if 4294967295 < place {
@@ -88,6 +89,27 @@ pub extern "C" fn cabjirt_fewest_ring(top: &[u32], bot: &[u32], ring: &mut [u32]
         RingAnswer::Pairs(pairs) => pairs as u64,
         RingAnswer::NoRing => 0,
         RingAnswer::Refused(refusal) => refused(refusal),
+    }
+}
+
+// Joins two lists of rows into two rows of at least 512 numbers each: the joined width, or refusals 1, 3 to 5 of list
+// one, then of list two, 3 of both, and 18.
+#[no_mangle]
+pub extern "C" fn cabjirt_join(
+    top1: &[u32],
+    bot1: &[u32],
+    top2: &[u32],
+    bot2: &[u32],
+    top: &mut [u32],
+    bot: &mut [u32],
+) -> u64
+    ensures { λ r.
+        ⌜ JoinEntry (rows (now (top1 .entry)) (now (bot1 .entry))) (rows (now (top2 .entry)) (now (bot2 .entry)))
+        (now (top .entry)) (now (bot .entry)) r (now (top .exit)) (now (bot .exit)) ⌝ }
+{
+    match panel::join(top1, bot1, top2, bot2, top, bot) {
+        JoinAnswer::Width(w) => w as u64,
+        JoinAnswer::Refused(refusal) => refused(refusal),
     }
 }
 

@@ -1,0 +1,15 @@
+pub mod Joined
+pub mod Answers
+pub mod Promise
+pub mod Code
+pub mod RaiseLaws
+pub mod JoinLaws
+pub mod PartLaws
+pub mod NetLaws
+pub mod DensityLaws
+pub mod FillLaws
+pub mod TangleLaws
+pub mod PanelLaws
+pub mod GroupLaws
+pub mod OverLaws
+pub mod AnswerLaws
