@@ -95,8 +95,10 @@ bool agree(unsigned long rounds)
         compare(name, READ, &input, false);
         damage_table(&input);
         compare(name, OWN_BLANK, &input, false);
+        random_second(&input);
+        compare(name, JOIN, &input, false);
     }
-    printf("%lu calls on the inputs below, with and without parked pins, and %lu random ones with tables of blanks, "
-           "%lu of them accepted: %lu differ\n", calls, rounds, accepted, differing);
+    printf("%lu calls on the inputs below, with and without parked pins, and %lu random ones with second lists and "
+           "tables of blanks, %lu of them accepted: %lu differ\n", calls, rounds, accepted, differing);
     return differing == 0;
 }

@@ -8,7 +8,7 @@
 
 const char *const shape_names[SHAPES] = {
     "example-B", "dense", "padded", "chain", "fullest", "ring-255", "ring-511", "ring-pairs", "ring-layers",
-    "file-4095", "file-4095-mixed", "one-column", "one-track", "one-point",
+    "panel-dense", "panel-full", "file-4095", "file-4095-mixed", "one-column", "one-track", "one-point",
 };
 
 /* Nets one inside the other, no two in a column: the density is half the width. */
@@ -65,11 +65,18 @@ static void make_layers(struct input *in, uint32_t width)
     }
 }
 
+static bool is_panel(enum shape shape)
+{
+    return shape == PANEL_DENSE || shape == PANEL_FULL;
+}
+
 static void make_rows(enum shape shape, size_t width, struct input *in)
 {
     static const uint32_t top[] = {0, 1, 6, 1, 2, 3, 5}, bot[] = {6, 3, 5, 4, 0, 2, 4};
     memset(in->top, 0, sizeof in->top);
     memset(in->bot, 0, sizeof in->bot);
+    if (is_panel(shape)) /* two lists share the columns */
+        width /= 2;
     in->top_length = in->bot_length = shape == EXAMPLE_B ? 7 : width;
     switch (shape) {
     case EXAMPLE_B:
@@ -78,6 +85,7 @@ static void make_rows(enum shape shape, size_t width, struct input *in)
         break;
     case DENSE:
     case PADDED:
+    case PANEL_DENSE:
         make_dense(in, (uint32_t)width);
         break;
     case CHAIN:
@@ -158,11 +166,14 @@ void make_input(enum shape shape, size_t width, struct input *in)
         shuffle_file(in);
     if (shape >= ONE_COLUMN)
         crowd_line(shape, in);
+    same_second(in);
     stock_table(in);
 }
 
 bool measured_on(enum operation operation, enum shape shape)
 {
+    if (operation == JOIN || is_panel(shape))
+        return operation == JOIN && (shape == EXAMPLE_B || is_panel(shape));
     if (shape == PADDED) /* the other operations take rows */
         return operation == READ;
     if (shape == RING_PAIRS || shape == RING_LAYERS) /* many rings of one length */

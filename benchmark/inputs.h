@@ -6,7 +6,8 @@
 
 #include "sides.h"
 
-/* What is measured. The padded one is the dense one as another text; those from the full file on are boards alone. */
+/* What is measured. The padded one is the dense one as another text, panels are two lists of half the width; those from
+ * the full file on are boards alone. */
 enum shape {
     EXAMPLE_B,
     DENSE,
@@ -17,6 +18,8 @@ enum shape {
     RING_511,
     RING_PAIRS,
     RING_LAYERS,
+    PANEL_DENSE,
+    PANEL_FULL,
     FULL_FILE,
     MIXED_FILE,
     ONE_COLUMN,
@@ -29,7 +32,8 @@ extern const char *const shape_names[SHAPES];
 
 /* Makes an input of a shape on so many columns (example B has its own width). Its file is the board that the router
  * draws; the shapes that are boards alone have 4,095 pieces: the fullest board's, repeated; the same shuffled; branches
- * of one column; trunks of one track; or one contact again and again. Its table is the stock. */
+ * of one column; trunks of one track; or one contact again and again. Its second list is the same as the first, its
+ * table is the stock. */
 void make_input(enum shape shape, size_t width, struct input *input);
 
 /* Writes the rows of an input as the text that a shape has: the padded one in columns of four, with a carriage return
@@ -56,6 +60,13 @@ void seed(uint64_t state);
  * there goes. */
 void park_pins(struct input *input, uint32_t count);
 
+/* The second list of an input, to be joined: its first once more. */
+void same_second(struct input *input);
+
+/* A random second list: as a rule one that fits behind the first, or nearly so, by its columns and numbers; at times
+ * one that is refused alone. */
+void random_second(struct input *input);
+
 /* The stock as a table of blanks, and the most tracks that a board has. */
 void stock_table(struct input *input);
 
@@ -65,7 +76,7 @@ void random_table(struct input *input);
 
 /* A random channel with its text, sometimes one that is refused; its board is drawn if it can be routed, and then
  * damaged more often than not. More often than not the text has runs of spaces, or carriage returns where lines end.
- * Its table is a random one. */
+ * Its second list and its table are random ones. */
 void random_input(struct input *input);
 
 /* Puts pieces crowded on few lines in place of an input's board file: ranges one in the other, equal ones, ones that

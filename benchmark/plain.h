@@ -43,6 +43,10 @@ uint64_t plain_fewest_ring(const uint32_t *top, size_t top_length, const uint32_
 
 uint64_t plain_own_blank(const uint32_t *table, size_t table_length, uint32_t tracks);
 
+uint64_t plain_join(const uint32_t *top1, size_t top1_length, const uint32_t *bot1, size_t bot1_length,
+                    const uint32_t *top2, size_t top2_length, const uint32_t *bot2, size_t bot2_length, uint32_t *top,
+                    size_t top_length, uint32_t *bot, size_t bot_length);
+
 /* What the parts of the plain version share. */
 
 /* A refusal or fault and its place, in one number. */

@@ -223,6 +223,7 @@ void random_input(struct input *in)
     draw_file(in);
     for (uint32_t slips = below(3); slips > 0 && in->file_length >= 4; slips--)
         damage_file(in);
+    random_second(in);
     random_table(in);
 }
 

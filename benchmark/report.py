@@ -20,7 +20,7 @@ PAIRWISE_GOAL = 25  # how many times longer the pairwise judge takes on each boa
 GROWTH_GOALS = {"bounds": 1.2}  # the power of the width, from 64 to 512 columns
 WIDTHS = (64, 128, 256, 512)
 SHAPES = {  # the name and what it is
-    "example-B": ("example B", "the paper's"),
+    "example-B": ("example B", "the paper's; joined with itself"),
     "dense": ("density 256", "256 nets, one inside the other, no two in a column"),
     "padded": ("density 256, padded", "the same list in columns of four, a carriage return before each line feed"),
     "chain": ("chain of 511", "511 nets, each above the next"),
@@ -29,6 +29,8 @@ SHAPES = {  # the name and what it is
     "ring-511": ("ring of 511", "the same of 511 nets, the largest ring"),
     "ring-pairs": ("255 rings of 2", "255 rings of two nets"),
     "ring-layers": ("rings of 128", "128 layers of two nets, each above both of the next: 2 to the power 128 rings"),
+    "panel-dense": ("density 128, twice", "128 nets, one inside the other, joined with the same list once more"),
+    "panel-full": ("chain of 255, twice", "255 nets, each above the next, a pin in every place, joined likewise"),
     "file-4095": ("4,095 pieces", "the fullest channel's pieces, repeated up to what a file holds"),
     "file-4095-mixed": ("4,095 pieces, mixed", "the same in random order"),
     "one-column": ("4,095 in a column", "branches of one column, their ends at random"),

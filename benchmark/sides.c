@@ -6,12 +6,14 @@
 #include "channel.h"
 #include "plain.h"
 
-const char *const operation_names[OPERATIONS] = {"read", "bounds", "route", "judge", "fewest-ring", "looks",
+const char *const operation_names[OPERATIONS] = {"read", "join", "bounds", "route", "judge", "fewest-ring", "looks",
                                                    "ceiling", "own-blank"};
 const char *const side_names[SIDES] = {"rattle", "c", "pairwise"};
 
 static const struct {
     uint64_t (*read)(const uint8_t *, size_t, uint32_t *, size_t, uint32_t *, size_t);
+    uint64_t (*join)(const uint32_t *, size_t, const uint32_t *, size_t, const uint32_t *, size_t, const uint32_t *,
+                     size_t, uint32_t *, size_t, uint32_t *, size_t);
     uint64_t (*bounds)(const uint32_t *, size_t, const uint32_t *, size_t);
     uint64_t (*route)(const uint32_t *, size_t, const uint32_t *, size_t, uint32_t *, size_t, uint8_t *, size_t);
     uint64_t (*judge)(const uint32_t *, size_t, const uint32_t *, size_t, const uint8_t *, size_t, uint32_t *, size_t);
@@ -20,9 +22,9 @@ static const struct {
     uint64_t (*ceiling)(const uint32_t *, size_t, const uint32_t *, size_t);
     uint64_t (*own_blank)(const uint32_t *, size_t, uint32_t);
 } entries[SIDES] = {
-    {cabjirt_read, cabjirt_bounds, cabjirt_route, cabjirt_judge, cabjirt_fewest_ring, cabjirt_looks,
+    {cabjirt_read, cabjirt_join, cabjirt_bounds, cabjirt_route, cabjirt_judge, cabjirt_fewest_ring, cabjirt_looks,
      cabjirt_ceiling, cabjirt_own_blank},
-    {plain_read, plain_bounds, plain_route, plain_judge, plain_fewest_ring, plain_looks, plain_ceiling,
+    {plain_read, plain_join, plain_bounds, plain_route, plain_judge, plain_fewest_ring, plain_looks, plain_ceiling,
      plain_own_blank},
     {.judge = plain_pairwise},
 };
@@ -46,6 +48,9 @@ uint64_t call(enum side side, enum operation operation, const struct input *in, 
     switch (operation) {
     case READ:
         return entries[side].read(in->text, in->text_length, lent->top, lent->top_length, lent->bot, lent->bot_length);
+    case JOIN:
+        return entries[side].join(in->top, in->top_length, in->bot, in->bot_length, in->top2, in->top2_length, in->bot2,
+                                  in->bot2_length, lent->top, lent->top_length, lent->bot, lent->bot_length);
     case BOUNDS:
         return entries[side].bounds(in->top, in->top_length, in->bot, in->bot_length);
     case ROUTE:

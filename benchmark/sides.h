@@ -10,17 +10,31 @@ enum { ROW = 512, RING = 1022, BOARD = 10240, SCRATCH = 5119 };
 /* The longest text and board file that an input has, and the most entries of a table. */
 enum { TEXT_LIMIT = 65536, FILE_LIMIT = 4 + 4 * 4095, TABLE_LIMIT = 72 };
 
-/* Looks, ceiling and own blank are compared and not measured: the former are parts of routing, and a choice of a blank
- * looks at 64 numbers at most. */
-enum operation { READ, BOUNDS, ROUTE, JUDGE, FEWEST_RING, LOOKS, CEILING, OWN_BLANK, OPERATIONS, MEASURED = LOOKS };
+/* Those from bounds on are measured on fewer columns too. Looks, ceiling and own blank are compared and not measured:
+ * the former are parts of routing, and a choice of a blank looks at 64 numbers at most. */
+enum operation {
+    READ,
+    JOIN,
+    BOUNDS,
+    ROUTE,
+    JUDGE,
+    FEWEST_RING,
+    LOOKS,
+    CEILING,
+    OWN_BLANK,
+    OPERATIONS,
+    MEASURED = LOOKS
+};
 
-/* What an operation is given: a pin list as text, the same as rows, a board file, a table of blanks with the tracks
- * wanted. Rows over 512 and tables over 64 are there to be refused. */
+/* What an operation is given: a pin list as text, the same as rows, the rows of a second list that is joined to it, a
+ * board file, a table of blanks with the tracks wanted. Rows over 512 and tables over 64 are there to be refused. */
 struct input {
     uint8_t text[TEXT_LIMIT];
     size_t text_length;
     uint32_t top[ROW + 8], bot[ROW + 8];
     size_t top_length, bot_length;
+    uint32_t top2[ROW + 8], bot2[ROW + 8];
+    size_t top2_length, bot2_length;
     uint8_t file[FILE_LIMIT];
     size_t file_length;
     uint32_t table[TABLE_LIMIT];

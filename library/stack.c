@@ -9,7 +9,7 @@
 
 #include <cabjirt.h>
 
-enum { STACK = 8 << 20, FILL = 0xa5, NETS = 511, ENTRIES = 64 };
+enum { STACK = 8 << 20, FILL = 0xa5, NETS = 511, ENTRIES = 64, HALF = 254 };
 
 static char text[65536];
 static size_t text_length;
@@ -97,6 +97,16 @@ static void *finding(void *unused)
     return unused;
 }
 
+/* The first columns of the chain twice: as many as have numbers up to 255, which raised once are at most 510. */
+static void *joining(void *unused)
+{
+    static uint32_t top2[HALF], bot2[HALF], over[CABJIRT_ROW], under[CABJIRT_ROW];
+    memcpy(top2, top, sizeof top2);
+    memcpy(bot2, bot, sizeof bot2);
+    answer = cabjirt_join(top, HALF, bot, HALF, top2, HALF, bot2, HALF, over, CABJIRT_ROW, under, CABJIRT_ROW);
+    return unused;
+}
+
 /* How many bytes of its stack a thread changes. */
 static size_t depth(void *(*entry)(void *))
 {
@@ -129,7 +139,8 @@ int main(void)
                    {"cabjirt_own_blank", choosing_own},
                    {"cabjirt_looks", looking},
                    {"cabjirt_ceiling", capping},
-                   {"cabjirt_fewest_ring", finding}};
+                   {"cabjirt_fewest_ring", finding},
+                   {"cabjirt_join", joining}};
     make_text();
     make_table();
     size_t without = depth(nothing);

@@ -20,6 +20,8 @@ PADDED = b"TOP   0   1   2   3\r\nBOT   1   2   0   3\r\n"
 L = b"TOP 1 0\nBOT 0 0\n"
 LONGER = b"TOP 1 2 3 4 2\nBOT 2 3 4 1 1\n"
 LONGER_TOLD = b"2 nets: net 1 above net 2 in column 1, net 2 above net 1 in column 5"
+A_AND_LONGER = b"TOP 0 1 2 3 4 5 6 7 5\nBOT 1 2 0 3 5 6 7 4 4\n"
+A_TWICE = b"TOP 0 1 2 3 0 4 5 6\nBOT 1 2 0 3 4 5 0 6\n"
 L_LISTED = b"BOARD 2 0 8\nBOUND 0 0\nEND 0\n"
 USED = b"width 4, tracks 2, pieces 11, blank 8\n"
 STRICT = ("-O2", "-Wall", "-Wextra", "-Wpedantic", "-Werror")
@@ -130,6 +132,25 @@ class Installed(unittest.TestCase):
         done = run(command, "ring", "-", input=LONGER)
         self.assertEqual((done.returncode, done.stdout, done.stderr), (2, b"", missing))
 
+    def test_panels(self):
+        """The panel joiner is installed beside the other programs; where it is gone the command says so."""
+        command, first, second = self.prefix / "bin" / "channel", self.room / "first", self.room / "second"
+        first.write_bytes(A)
+        second.write_bytes(LONGER)
+        done = run(command, "panel", first, second)
+        self.assertEqual((done.returncode, done.stdout), (0, A_AND_LONGER))
+        done = run(command, "panel", "-", first, input=PADDED)
+        self.assertEqual((done.returncode, done.stdout), (0, A_TWICE))
+        self.assertEqual(run(command, "list", "-", input=A_TWICE).stdout[:12], b"BOARD 8 2 8\n")
+        done = run(command, "panel", first, "-", input=b"TOP 509\nBOT 510\n")
+        self.assertEqual((done.returncode, done.stdout), (1, b"REFUSED 18 512\n"))
+        program = self.prefix / "lib" / "cabjirt" / "bin" / "panel_joiner"
+        kept = program.rename(self.room / "panel_joiner")
+        self.addCleanup(kept.rename, program)
+        missing = f"channel: {program} is missing: install the command again\n".encode()
+        done = run(command, "panel", first, second)
+        self.assertEqual((done.returncode, done.stdout, done.stderr), (2, b"", missing))
+
     def test_the_order_screen(self):
         done = run(self.prefix / "bin" / "channel", "order", input=L + b"show\n")
         self.assertEqual(done.returncode, 2 if OPTIONS else 0, done.stderr.decode())
@@ -162,7 +183,7 @@ class Installed(unittest.TestCase):
         told = dict(re.findall(r"^\| `(cabjirt_\w+)` \| (\d+) KiB \|", (ROOT / "docs" / "MANUAL.md").read_text(), re.M))
         for _, name, used in map(str.split, measured.splitlines()):
             self.assertLessEqual(int(used), 1024 * int(told[name]), name)
-        self.assertEqual(len(told), 9)
+        self.assertEqual(len(told), 10)
 
     def test_the_man_page(self):
         page = self.prefix / "share" / "man" / "man1" / "channel.1"

@@ -10,8 +10,9 @@ enum { THREADS = 4, ROUNDS = 300 };
 
 struct work {
     uint32_t top[CABJIRT_ROW], bot[CABJIRT_ROW], ring[CABJIRT_RING], scratch[CABJIRT_SCRATCH];
+    uint32_t joined_top[CABJIRT_ROW], joined_bot[CABJIRT_ROW];
     uint8_t board[CABJIRT_BOARD];
-    uint64_t answers[9];
+    uint64_t answers[10];
 };
 
 static struct work due[THREADS], works[THREADS];
@@ -41,6 +42,9 @@ static void work_through(struct work *work, size_t which)
     work->answers[7] = cabjirt_own_blank((const uint32_t[]){16, 24, 36}, 3, (uint32_t)width);
     work->bot[width - 2] = (uint32_t)which + 1;
     work->answers[8] = cabjirt_fewest_ring(work->top, width, work->bot, width, work->ring, CABJIRT_RING);
+    work->answers[9] = cabjirt_join(work->top, width, work->bot, width, (const uint32_t[]){1, 0, 2}, 3,
+                                    (const uint32_t[]){0, 2, 1}, 3, work->joined_top, CABJIRT_ROW, work->joined_bot,
+                                    CABJIRT_ROW);
 }
 
 static void *repeat(void *number)
@@ -67,7 +71,7 @@ int main(void)
             return 2;
     for (size_t i = 0; i < THREADS; i++)
         all += same[i];
-    printf("%d rounds the same, %u tracks judged, a ring of %u nets\n", all, cabjirt_value(due[0].answers[3]),
-           cabjirt_value(due[0].answers[8]));
+    printf("%d rounds the same, %u tracks judged, a ring of %u nets, %u columns joined\n", all,
+           cabjirt_value(due[0].answers[3]), cabjirt_value(due[0].answers[8]), cabjirt_value(due[0].answers[9]));
     return all == THREADS * ROUNDS ? 0 : 1;
 }

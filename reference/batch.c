@@ -2,13 +2,15 @@
  *
  * Usage: batch < questions > lines. A question is, its numbers most significant byte first:
  *
- *     kind      1 byte: 0 read, 1 bounds, 2 route, 3 judge, 4 blank, 5 looks, 6 ceiling, 7 own blank, 8 fewest ring
+ *     kind      1 byte: 0 read, 1 bounds, 2 route, 3 judge, 4 blank, 5 looks, 6 ceiling, 7 own blank, 8 fewest ring,
+ *               9 join
  *     fill      1 byte: what the lent buffers hold before; if it is odd, a buffer of length 0 is lent as NULL
- *     lent      2 numbers of 4 bytes: the lengths of the buffers that the entry writes (read: TOP, BOT; route: ring,
- *               board; judge: scratch, and one that is not used; fewest ring: ring, and one that is not used; blank
- *               and own blank: the tracks, and one that is not used)
- *     lengths   3 numbers of 4 bytes: of TOP (own blank: of the table), of BOT, of the text or board file
- *     data      the numbers of TOP and BOT, 4 bytes each, then the text or board file
+ *     lent      2 numbers of 4 bytes: the lengths of the buffers that the entry writes (read and join: TOP, BOT; route:
+ *               ring, board; judge: scratch, and one that is not used; fewest ring: ring, and one that is not used;
+ *               blank and own blank: the tracks, and one that is not used)
+ *     lengths   5 numbers of 4 bytes: of TOP (own blank: of the table), of BOT, of TOP and BOT of the second list that
+ *               is joined, of the text or board file
+ *     data      the numbers of those four rows, 4 bytes each, then the text or board file
  *
  * A line is the number and value of the answer, then for each buffer that the entry writes: its name; its front, whose
  * length the answer tells; and `kept`, or `changed` with the offset of the first byte that changed outside the front,
@@ -20,14 +22,14 @@
 
 #include "channel.h"
 
-enum { READ, BOUNDS, ROUTE, JUDGE, BLANK, LOOKS, CEILING, OWN_BLANK, FEWEST_RING };
-enum { LENT = 2, LENGTHS = 3, HEADER = 2 + 4 * (LENT + LENGTHS), GUARD = 64, LONGEST = 1 << 20 };
+enum { READ, BOUNDS, ROUTE, JUDGE, BLANK, LOOKS, CEILING, OWN_BLANK, FEWEST_RING, JOIN };
+enum { LENT = 2, ROWS = 4, LENGTHS = ROWS + 1, HEADER = 2 + 4 * (LENT + LENGTHS), GUARD = 64, LONGEST = 1 << 20 };
 
 struct question {
     uint8_t kind, fill;
     uint32_t lent[LENT];
-    size_t top_length, bot_length, bytes_length;
-    const uint32_t *top, *bot;
+    size_t top_length, bot_length, top2_length, bot2_length, bytes_length;
+    const uint32_t *top, *bot, *top2, *bot2;
     const uint8_t *bytes;
 };
 
@@ -144,6 +146,18 @@ static void ask_fewest_ring(const struct question *q)
     give_back(ring, cabjirt_number(answer) == 0 ? 2 * (size_t)cabjirt_value(answer) : 0);
 }
 
+static void ask_join(const struct question *q)
+{
+    struct buffer top = lend("top", sizeof(uint32_t), q->lent[0], q->fill);
+    struct buffer bot = lend("bot", sizeof(uint32_t), q->lent[1], q->fill ^ 2);
+    uint64_t answer = cabjirt_join(q->top, q->top_length, q->bot, q->bot_length, q->top2, q->top2_length, q->bot2,
+                                   q->bot2_length, start_of(&top), top.length, start_of(&bot), bot.length);
+    size_t width = cabjirt_number(answer) == 0 ? cabjirt_value(answer) : 0;
+    put_answer(answer);
+    give_back(top, width);
+    give_back(bot, width);
+}
+
 static void ask_judge(const struct question *q)
 {
     struct buffer scratch = lend("scratch", sizeof(uint32_t), q->lent[0], q->fill);
@@ -184,6 +198,9 @@ static void ask(const struct question *q)
     case FEWEST_RING:
         ask_fewest_ring(q);
         break;
+    case JOIN:
+        ask_join(q);
+        break;
     default:
         fail("a question is of no kind");
     }
@@ -209,22 +226,36 @@ static const void *given(const uint8_t *start, size_t length, uint8_t fill)
     return length == 0 && fill % 2 ? NULL : start;
 }
 
+/* Points a question's rows and bytes into its data. */
+static void place(struct question *q, const uint8_t *data)
+{
+    const uint8_t *bot = data + 4 * q->top_length, *top2 = bot + 4 * q->bot_length;
+    const uint8_t *bot2 = top2 + 4 * q->top2_length, *bytes = bot2 + 4 * q->bot2_length;
+    q->top = given(data, q->top_length, q->fill);
+    q->bot = given(bot, q->bot_length, q->fill);
+    q->top2 = given(top2, q->top2_length, q->fill);
+    q->bot2 = given(bot2, q->bot2_length, q->fill);
+    q->bytes = given(bytes, q->bytes_length, q->fill);
+}
+
 static void answer(const uint8_t *header)
 {
-    uint32_t numbers[LENT + LENGTHS];
+    uint32_t numbers[LENT + LENGTHS], *lengths = numbers + LENT;
     for (size_t i = 0; i < LENT + LENGTHS; i++)
         numbers[i] = number_at(header + 2 + 4 * i);
-    struct question q = {.kind = header[0], .fill = header[1], .top_length = numbers[LENT],
-                         .bot_length = numbers[LENT + 1], .bytes_length = numbers[LENT + 2]};
-    if (q.top_length > LONGEST || q.bot_length > LONGEST || q.bytes_length > LONGEST)
-        fail("a length is over 1048576");
+    struct question q = {.kind = header[0], .fill = header[1], .top_length = lengths[0], .bot_length = lengths[1],
+                         .top2_length = lengths[2], .bot2_length = lengths[3], .bytes_length = lengths[ROWS]};
+    size_t rows = 0;
+    for (size_t i = 0; i < LENGTHS; i++) {
+        if (lengths[i] > LONGEST)
+            fail("a length is over 1048576");
+        rows += i < ROWS ? lengths[i] : 0;
+    }
     memcpy(q.lent, numbers, sizeof q.lent);
-    size_t rows = q.top_length + q.bot_length, length = 4 * rows + q.bytes_length;
+    size_t length = 4 * rows + q.bytes_length;
     uint8_t *data = data_of(rows, q.bytes_length), *before = room(length);
     memcpy(before, data, length);
-    q.top = given(data, q.top_length, q.fill);
-    q.bot = given(data + 4 * q.top_length, q.bot_length, q.fill);
-    q.bytes = given(data + 4 * rows, q.bytes_length, q.fill);
+    place(&q, data);
     ask(&q);
     puts(memcmp(data, before, length) == 0 ? " inputs kept" : " inputs changed");
     free(data);

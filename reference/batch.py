@@ -2,6 +2,7 @@
 import struct
 import subprocess
 import sys
+from itertools import islice
 from pathlib import Path
 
 import channel
@@ -9,10 +10,10 @@ import channel
 ROOT = Path(__file__).resolve().parent.parent
 PROGRAM = ROOT / "target" / "batch"
 LIBRARY = ROOT / "target" / "staticlib" / "libscreen_api.a"
-READ, BOUNDS, ROUTE, JUDGE, BLANK, LOOKS, CEILING, OWN_BLANK, FEWEST_RING = range(9)
-NAMES = ("read", "bounds", "route", "judge", "blank", "looks", "ceiling", "own blank", "fewest ring")
+READ, BOUNDS, ROUTE, JUDGE, BLANK, LOOKS, CEILING, OWN_BLANK, FEWEST_RING, JOIN = range(10)
+NAMES = ("read", "bounds", "route", "judge", "blank", "looks", "ceiling", "own blank", "fewest ring", "join")
 WORKERS = 2  # processes that make cases
-HEADER = struct.Struct(">BB5I")
+HEADER = struct.Struct(">BB7I")
 
 
 class Case:
@@ -20,9 +21,10 @@ class Case:
 
     __slots__ = ("question", "due")
 
-    def __init__(self, kind, due, fill=0, lent=(0, 0), top=(), bot=(), data=b""):
-        head = HEADER.pack(kind, fill, *lent, len(top), len(bot), len(data))
-        self.question = head + struct.pack(f">{len(top) + len(bot)}I", *top, *bot) + data
+    def __init__(self, kind, due, fill=0, lent=(0, 0), top=(), bot=(), data=b"", second=((), ())):
+        rows = top, bot, *second
+        head = HEADER.pack(kind, fill, *lent, *map(len, rows), len(data))
+        self.question = head + struct.pack(f">{sum(map(len, rows))}I", *(n for row in rows for n in row)) + data
         self.due = due
 
     def number(self):
@@ -40,11 +42,22 @@ class Case:
         """The lengths of the buffers lent; of an entry that chooses a blank, first the tracks."""
         return HEADER.unpack_from(self.question)[2:4]
 
+    def rows(self):
+        """TOP and BOT, then those of the second list that is joined; a table of blanks is the first row."""
+        lengths = HEADER.unpack_from(self.question)[4:8]
+        numbers = iter(struct.unpack_from(f">{sum(lengths)}I", self.question, HEADER.size))
+        return [list(islice(numbers, length)) for length in lengths]
+
     def inputs(self):
-        """The rows, and the text or board file; a table of blanks is the first row."""
-        *_, top, bot, count = HEADER.unpack_from(self.question)
-        numbers = list(struct.unpack_from(f">{top + bot}I", self.question, HEADER.size))
-        return (numbers[:top], numbers[top:]), self.question[len(self.question) - count:]
+        """The rows of the first or only list, and the text or board file."""
+        *_, count = HEADER.unpack_from(self.question)
+        top, bot, *_ = self.rows()
+        return (top, bot), self.question[len(self.question) - count:]
+
+    def lists(self):
+        """The two lists that are joined."""
+        rows = self.rows()
+        return rows[:2], rows[2:]
 
     def shown(self):
         """The question for people: what is asked, the rows as a pin list or the table, the bytes in hexadecimal."""
@@ -53,6 +66,8 @@ class Case:
         lines = [f"{NAMES[kind]}, lent {first} and {second}, fill {fill}"]
         if kind == OWN_BLANK:
             lines.append(joined("TABLE", listed(top)))
+        elif kind == JOIN:
+            lines += [joined(word, listed(row)) for rows in self.lists() for word, row in zip(("TOP", "BOT"), rows)]
         elif kind not in (READ, BLANK):
             lines += [joined("TOP", listed(top)), joined("BOT", listed(bot))]
         if kind in (READ, JUDGE):
@@ -68,6 +83,11 @@ def listed(numbers):
     return " ".join(map(str, numbers))
 
 
+def rows_due(answer, rows=((), ())):
+    """The line of an entry that fills two rows: its number and value, and their fronts."""
+    return joined(*answer, "top", listed(rows[0]), "kept bot", listed(rows[1]), "kept inputs kept")
+
+
 def read(text, fill=0, top=channel.ROW, bot=channel.ROW):
     """The case of a text, read into rows lent with so many numbers."""
     try:
@@ -78,8 +98,7 @@ def read(text, fill=0, top=channel.ROW, bot=channel.ROW):
         answer = (0, len(rows[0]))
     except channel.Refused as refusal:
         answer, rows = (refusal.number, refusal.place), ((), ())
-    due = joined(*answer, "top", listed(rows[0]), "kept bot", listed(rows[1]), "kept inputs kept")
-    return Case(READ, due, fill, (top, bot), data=text)
+    return Case(READ, rows_due(answer, rows), fill, (top, bot), data=text)
 
 
 def answered(value_of, *arguments):
@@ -131,6 +150,16 @@ def fewest_ring(top, bot, fill=0, ring=channel.RING):
         answer = refusal.number, refusal.place
     due = joined(*answer, "ring", listed(n for pair in pairs for n in pair), "kept inputs kept")
     return Case(FEWEST_RING, due, fill, (ring, 0), top, bot)
+
+
+def join(first, second, fill=0, top=channel.ROW, bot=channel.ROW):
+    """The case of two lists, joined into rows lent with so many numbers."""
+    try:
+        rows = channel.join(first, second, top, bot)
+        due = rows_due((0, len(rows[0])), rows)
+    except channel.Refused as refusal:
+        due = rows_due((refusal.number, refusal.place))
+    return Case(JOIN, due, fill, (top, bot), *first, second=second)
 
 
 def judge(top, bot, file, fill=0, scratch=channel.SCRATCH):

@@ -9,12 +9,13 @@ from pathlib import Path
 import board_cases
 import channel
 import crowded_boards
+import panel_lists
 import ring_channels
 import row_cases
 import table_cases
 import text_cases
 
-OPEN, PIECE, BLANK, READ, CHECK, BOUNDS, FILL, JUDGE, LOOKS, OWN_BLANK, FEWEST = range(11)
+OPEN, PIECE, BLANK, READ, CHECK, BOUNDS, FILL, JUDGE, LOOKS, OWN_BLANK, FEWEST, JOIN = range(12)
 
 
 def pair(number):
@@ -116,6 +117,16 @@ class Cases:
             lines.append(("RING", *(n for pair in pairs for n in pair)))
         self.add(FEWEST, rows_data(top, bot), *lines, ("KEPT",))
 
+    def join(self, first, second):
+        """Two lists on one panel, joined into rows that hold 7777 everywhere: what is not filled must still hold it."""
+        try:
+            top, bot = channel.join(first, second)
+            lines = [("JOIN", 0, len(top)), ("TOP", *top), ("BOT", *bot)]
+        except channel.Refused as refusal:
+            lines = [("JOIN", refusal.number, refusal.place)]
+        data = rows_data(*first)
+        self.add(JOIN, pair(len(data)) + data + rows_data(*second), *lines, ("KEPT",))
+
     def channel_cases(self, top, bot):
         self.bounds(top, bot)
         self.fill(top, bot)
@@ -135,6 +146,7 @@ def main(folder):
     crowded_boards.add_all(cases)
     table_cases.add_all(cases)
     ring_channels.add_all(cases)
+    panel_lists.add_all(cases)
     cases.input += bytes([OPEN]) + pair(5) + bytes(4)  # five bytes are announced, and four follow
     cases.lines.append("CUT")
     folder.joinpath("stdin").write_bytes(bytes(cases.input))

@@ -70,6 +70,29 @@ def turned(top, bot):
     return bot, top
 
 
+def raised(row, by):
+    """A row with each net number raised; 0 is no net and stays."""
+    return [net + by if net else 0 for net in row]
+
+
+def join(first, second, top=ROW, bot=ROW):
+    """The rows of two lists on one panel (Req 09), for joined rows lent with so many numbers; or refusals 1, 3 to 5 of
+    the first list, then of the second, 3 and 18. The joined rows fill the fronts of those lent, whose rest stays; under
+    a refusal they stay whole."""
+    if min(top, bot) < ROW:
+        raise Refused(1, ROW)
+    check(*first)
+    check(*second)
+    if len(first[0]) + len(second[0]) > WIDEST:
+        raise Refused(3, WIDEST + 1)
+    highest = max([*first[0], *first[1]])
+    upper, lower = (raised(row, highest) for row in second)
+    over = {net for net in upper + lower if net > HIGHEST_NET}
+    if over:
+        raise Refused(18, min(over))
+    return [*first[0], *upper], [*first[1], *lower]
+
+
 # --- spans and constraints ------------------------------------------------------------------------------------------
 
 def columns_of(top, bot):
@@ -430,6 +453,15 @@ def ring_lines(text):
     """The pairs of the ring with the fewest nets, a line each, or NONE (Req 05)."""
     try:
         return b"".join(line("RING", n, c) for n, c in fewest_ring(*read(text))) or line("NONE")
+    except Refused as refusal:
+        return refused_lines(refusal)
+
+
+def panel(first, second):
+    """The pin list of two lists on one panel (Req 09); the first is refused before the second is read."""
+    try:
+        top, bot = join(read(first), read(second))
+        return line("TOP", *top) + line("BOT", *bot)
     except Refused as refusal:
         return refused_lines(refusal)
 

@@ -1,7 +1,7 @@
 #!/usr/bin/env python3
-"""Compares the four programs and the C entries with channel.py on cases drawn from a seed, the router with a search on
-small channels, the ring with the fewest nets with all rings of small channels, and the choice of own blanks with the
-words of its request on small tables.
+"""Compares the five programs and the C entries with channel.py on cases drawn from a seed, the router with a search on
+small channels, the ring with the fewest nets with all rings of small channels, two lists on one panel with the words of
+their request on small lists, and the choice of own blanks with those of its own on small tables.
 
     python3 reference/compare.py [SEED]        runs the test of the comparison itself, then all parts
     python3 reference/compare.py --self-test   runs that test alone
@@ -20,16 +20,17 @@ import batch
 import entry_cases
 import exhaustive
 import own_checks
+import panel_checks
 import program_cases
 import ring_checks
 import self_test
 
 DEFAULT_SEED = "2026"
-PROGRAMS = ("listing", "board_writer", "board_judge", "ring_finder")
-# No answer has number 6. The programs lend enough memory, have a blank for every channel and take no other table, so 1
-# and 14 to 16 never show. None is an output other than a refusal.
-PROGRAM_NUMBERS = {None, 0, *range(2, 6), *range(7, 14)}
-ENTRY_NUMBERS = {*range(6), *range(7, 17)}
+PROGRAMS = ("listing", "board_writer", "board_judge", "ring_finder", "panel_joiner")
+# No answer has number 6 or 17. The programs lend enough memory, have a blank for every channel and take no other table,
+# so 1 and 14 to 16 never show. None is an output other than a refusal.
+PROGRAM_NUMBERS = {None, 0, *range(2, 6), *range(7, 14), 18}
+ENTRY_NUMBERS = {*range(6), *range(7, 17), 18}
 
 
 def first_difference(cases, answers):
@@ -87,16 +88,17 @@ def entries(seed):
     features = sum((found for _, found in parts), Counter())
     parked = ", ".join(f"{name} {features[name]}" for name in entry_cases.PARKED)
     due = (entry_cases.GOOD + entry_cases.SWEPT + entry_cases.PARKED + entry_cases.READ + entry_cases.GARBLED
-           + entry_cases.LOOKS + entry_cases.CEILING + entry_cases.FEWEST_RING + entry_cases.OWN_BLANK
-           + entry_cases.NO_OWN_BLANK + entry_cases.REFUSED)
+           + entry_cases.LOOKS + entry_cases.CEILING + entry_cases.FEWEST_RING + entry_cases.JOIN
+           + entry_cases.NO_JOIN + entry_cases.OWN_BLANK + entry_cases.NO_OWN_BLANK + entry_cases.REFUSED)
     return difference or lacking(numbers, ENTRY_NUMBERS) or lacking(features, due), (
         f"{len(cases)} cases in one process ({kinds}); answers {counted(numbers)}; good boards"
         f" {having(features, entry_cases.GOOD)}; boards swept {having(features, entry_cases.SWEPT)}; parked pins in"
         f" {parked}; texts read {having(features, entry_cases.READ)}; garbled"
         f" {having(features, entry_cases.GARBLED)}; looks {having(features, entry_cases.LOOKS)}; ceilings"
         f" {having(features, entry_cases.CEILING)}; rings with the fewest nets"
-        f" {having(features, entry_cases.FEWEST_RING)}; own blanks {having(features, entry_cases.OWN_BLANK)}, and"
-        f" refused {having(features, entry_cases.NO_OWN_BLANK)}")
+        f" {having(features, entry_cases.FEWEST_RING)}; lists joined {having(features, entry_cases.JOIN)}, and refused"
+        f" {having(features, entry_cases.NO_JOIN)}; own blanks {having(features, entry_cases.OWN_BLANK)}, and refused"
+        f" {having(features, entry_cases.NO_OWN_BLANK)}")
 
 
 def run(name, part, *arguments):
@@ -124,7 +126,7 @@ def main(arguments):
     seed = arguments[0] if arguments else DEFAULT_SEED
     print(f"seed {seed}", flush=True)
     parts = (("programs", programs), ("entries", entries), ("exhaustive", exhaustive.compare),
-             ("rings", ring_checks.compare), ("own blanks", own_checks.compare))
+             ("rings", ring_checks.compare), ("panels", panel_checks.compare), ("own blanks", own_checks.compare))
     results = [run(name, part, seed) for name, part in parts]
     return 0 if all(results) else 1
 

@@ -6,6 +6,7 @@ from collections import Counter
 import batch
 import channel
 import crowded_boards
+import panel_lists
 import piece_sets
 import random_boards
 import random_channels
@@ -20,8 +21,8 @@ import text_cases
 
 # What must be shown by some good board, some good or faulty board of few pieces, some channel or board with parked
 # pins, some text that is read, some text that is garbled, some looks, some ceiling, some answer of the ring with the
-# fewest nets, some entry chosen of a table of blanks, and some table that is refused; and the refusals that looks,
-# ceiling and that ring must have.
+# fewest nets, some two lists that are joined, some that are not, some entry chosen of a table of blanks, and some table
+# that is refused; and the refusals that looks, ceiling, that ring and joining must have.
 GOOD = ("several trunks a net", "a tangled channel", "copper at an edge place without a pin",
         "copper on a parked pin", "a parked pin without copper")
 SWEPT = ("a range inside another", "ranges that end where the next starts", "equal ranges",
@@ -36,13 +37,20 @@ FEWEST_RING = ("no ring", "no ring and parked pins", "a ring of two nets", "a lo
                "fewer nets than the walk's", "a lowest net above the walk's", "as many nets through other columns",
                "as many nets from a higher lowest net", "parked pins and a ring")
 CEILING = ("no net that spans", "parked pins and no net that spans")
+JOIN = ("no net in the first list", "no net in the second", "gaps below the highest number", "that number parked",
+        "that number in BOT alone", "parked pins in the second list", "neither list tangled", "the first tangled alone",
+        "the second tangled alone", "both tangled", "512 columns", "a raised number of 511", "longer rows lent")
+NO_JOIN = ("a refused list and joined rows too short", "the first list refused alone", "the second refused alone",
+           "both refused", "512 columns in one list and too many together", "too many together and numbers over 511",
+           "too many together and the second refused", "several numbers over 511, the lowest not first",
+           "a number of 512 and no higher", "numbers over 511 and a list tangled")
 OWN_BLANK = ("no tracks", "as many tracks as the entry holds", "the first entry of several", "an inner one",
              "the last of several", "a table of one entry", "a table of 64")
 NO_OWN_BLANK = ("no entry", "over 64 entries", "a 0 in the place", "a number over 512 in the place",
                 "equal neighbours in the place", "a fall in the place", "tracks just above the last entry",
                 "over 512 tracks and a bad table")
-REFUSED = (*(f"refusal {number} of {name}" for name in ("looks", "ceiling", "fewest ring") for number in (3, 4, 5)),
-           "refusal 1 of fewest ring")
+REFUSED = (*(f"refusal {number} of {name}" for name in ("looks", "ceiling", "fewest ring", "join")
+             for number in (3, 4, 5)), "refusal 1 of fewest ring", "refusal 1 of join", "refusal 18 of join")
 SMALL_CHANNELS = [tuple(map(list, rows)) for rows in small_channels.shapes(2)]
 
 
@@ -71,6 +79,25 @@ def fixed_ring_job(rng):
         yield batch.fewest_ring(top, bot)
     for rows in ring_channels.large(rng):
         yield batch.fewest_ring(*rows, rng.randrange(256))
+
+
+def panel_job(rng):
+    """Two lists on one panel, many about its highest number or its last column, many refused."""
+    for _ in range(400):
+        first, second = panel_lists.drawn(rng)
+        yield batch.join(first, second, rng.randrange(256), lent(rng, channel.ROW), lent(rng, channel.ROW))
+
+
+def fixed_panel_job(_):
+    """Lists that were joined or refused by hand, into rows that are short for some; and numbers that wrap where 32
+    bits end, if they are raised before they are checked."""
+    for first, second, _ in panel_lists.JOINED + panel_lists.REFUSED:
+        for fill, top, bot in ((0, 512, 512), (1, 512, 512), (2, 513, 600), (3, 511, 512), (4, 512, 511), (5, 0, 0)):
+            yield batch.join(first, second, fill, top, bot)
+    for far in (2**16, 2**31, 2**32 - 511, 2**32 - 1):
+        for first, second in ((panel_lists.same(far), panel_lists.A), (panel_lists.same(511), panel_lists.same(far)),
+                              (panel_lists.A, ([1, 0], [0, far])), (panel_lists.same(far), panel_lists.same(far))):
+            yield batch.join(first, second, 6)
 
 
 def table_job(rng):
@@ -225,7 +252,7 @@ def fixed_job(_):
 
 JOBS = ((fixed_job, 1), (small_board_job, 1), (wide_job, 10), (maze_job, 8), (own_board_job, 8), (channel_job, 10),
         (scatter_job, 6), (crowded_job, 6), (fixed_crowded_job, 1), (text_job, 12), (fixed_table_job, 1),
-        (table_job, 4), (fixed_ring_job, 1), (ring_job, 4))
+        (table_job, 4), (fixed_ring_job, 1), (ring_job, 4), (fixed_panel_job, 1), (panel_job, 4))
 
 
 def jobs(seed):
@@ -255,6 +282,8 @@ def features(case):
         yield from own_blank_features(case)
     if case.kind() == batch.FEWEST_RING:
         yield from fewest_ring_features(case)
+    if case.kind() == batch.JOIN:
+        yield from join_features(case) if case.number() == 0 else no_join_features(case)
 
 
 def good_features(case):
@@ -355,6 +384,35 @@ def fewest_ring_features(case):
              any({n for n, _ in ring} == {n for n, _ in pairs} and set(ring) != set(pairs) for ring in rings),
              any(min(ring) > min(pairs) for ring in rings), 0 < nets and parked)
     yield from (name for name, seen in zip(FEWEST_RING, shown) if seen)
+
+
+def join_features(case):
+    """What two lists that are joined show."""
+    first, second = case.lists()
+    nets, more = ({*rows[0], *rows[1]} - {0} for rows in (first, second))
+    highest = max(nets, default=0)
+    tangled = [bool(channel.filled(*rows)[2]) for rows in (first, second)]
+    shown = (not nets, not more, len(nets) < highest, highest in small_channels.parked_in(*first),
+             highest and highest not in first[0], small_channels.parked_in(*second), tangled == [False, False],
+             tangled == [True, False], tangled == [False, True], tangled == [True, True], case.place() == 512,
+             highest and max(more, default=0) + highest == 511, min(case.lent()) > channel.ROW)
+    yield from (name for name, seen in zip(JOIN, shown) if seen)
+
+
+def no_join_features(case):
+    """What two lists that are not joined show, with their refusal."""
+    number, (first, second) = case.number(), case.lists()
+    yield f"refusal {number} of {batch.NAMES[case.kind()]}"
+    bad = [batch.answered(channel.check, *rows)[0] != 0 for rows in (first, second)]
+    widths, highest = [len(rows[0]) for rows in (first, second)], max(first[0] + first[1], default=0)
+    over = [net + highest for net in second[0] + second[1] if net and net + highest > 511]
+    wide, panel = sum(widths) > 512, bad == [False, False]
+    shown = (number == 1 and any(bad), number > 1 and bad == [True, False], number > 1 and bad == [False, True],
+             number > 1 and bad == [True, True], number == 3 and panel and 512 in widths,
+             number == 3 and panel and over, number > 1 and wide and bad == [False, True],
+             number == 18 and over[0] > min(over), number == 18 and set(over) == {512},
+             number == 18 and any(channel.filled(*rows)[2] for rows in (first, second)))
+    yield from (name for name, seen in zip(NO_JOIN, shown) if seen)
 
 
 def own_blank_features(case):

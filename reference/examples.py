@@ -1,5 +1,6 @@
-"""Runs the four programs and `./channel make` on the bench examples A to M of the owner's papers, and on some of the
-spaces of Req 01, and compares what they write with the papers, to the letter.
+"""Runs the five programs and `./channel make` on the bench examples A to M of the owner's papers, and on some of the
+spaces of Req 01, and compares what they write with the papers, to the letter; two of the examples on one panel (Req 09)
+are as they come out by hand.
 
 Usage: python3 reference/examples.py target/bin
 """
@@ -45,6 +46,25 @@ LISTED = {
 RINGS = {"C": b"RING 1 1\nRING 2 2\n", "D": b"RING 2 2\nRING 3 3\n"}  # of those that have one, with the fewest nets
 
 
+PANELS = {  # the first list, the second, and what the panel joiner writes
+    "A, A": (A, A, b"TOP 0 1 2 3 0 4 5 6\nBOT 1 2 0 3 4 5 0 6\n"),
+    "B, C": (LISTED["B"][0], LISTED["C"][0], b"TOP 0 1 6 1 2 3 5 7 8\nBOT 6 3 5 4 0 2 4 8 7\n"),
+    "C, B": (LISTED["C"][0], LISTED["B"][0], b"TOP 1 2 0 3 8 3 4 5 7\nBOT 2 1 8 5 7 6 0 4 6\n"),
+    "F, E": (LISTED["F"][0], LISTED["E"][0], b"TOP 0 1 0 1 2 0 2\nBOT 0 0 3 0 0 3 0\n"),
+    "L, A, padded": (L, LISTED["A, padded"][0], b"TOP 1 0 0 2 3 4\nBOT 0 0 2 3 0 4\n"),
+    "net 511, G": (LISTED["M, net 511"][0], LISTED["G"][0], b"REFUSED 18 516\n"),
+    "G, net 511": (LISTED["G"][0], LISTED["M, net 511"][0], b"REFUSED 18 516\n"),
+    "512 columns, net 511": (LISTED["M, 512 columns"][0], LISTED["M, net 511"][0], b"REFUSED 3 513\n"),
+    "513 columns, K": (LISTED["M, 513 columns"][0], LISTED["K"][0], b"REFUSED 3 513\n"),
+    "K, 513 columns": (LISTED["K"][0], LISTED["M, 513 columns"][0], b"REFUSED 2 5\n"),
+    "A, net 512": (A, LISTED["M, net 512"][0], b"REFUSED 5 1\n"),
+    "A, too long": (A, LISTED["too long"][0], b"REFUSED 0 65536\n"),
+    "as long as may be, G": (LISTED["as long as may be"][0], LISTED["G"][0], b"TOP 5 10\nBOT 5 10\n"),
+    "no files": (None, None, b"REFUSED 2 0\n"),
+    "A and no second": (A, None, b"REFUSED 2 0\n"),
+}
+
+
 def ring_due(name, listed):
     """What the ring finder writes of an example, whose refusal it shares with the listing."""
     return RINGS.get(name, listed if listed.startswith(b"REFUSED") else b"NONE\n")
@@ -54,13 +74,17 @@ def run(program, data=b"", cwd=None):
     return subprocess.run([program], input=data, stdout=subprocess.PIPE, cwd=cwd, check=True).stdout
 
 
-def judged(program, pins, board):
-    """Runs the judging program in a folder with these files; None is an absent file."""
+def in_folder(program, **files):
+    """Runs a program in a folder with these files; None is an absent file."""
     with tempfile.TemporaryDirectory() as folder:
-        for name, data in (("pins", pins), ("board", board)):
+        for name, data in files.items():
             if data is not None:
                 Path(folder, name).write_bytes(data)
         return run(program, cwd=folder)
+
+
+def judged(program, pins, board):
+    return in_folder(program, pins=pins, board=board)
 
 
 def made(text):
@@ -105,6 +129,8 @@ def main(bins):
     expect("no board", judged(bins / "board_judge", A, None), b"REFUSED 8 4\n")
     expect("pins before board", judged(bins / "board_judge", b"TOP 01", b"x"), b"REFUSED 2 5\n")
     expect("long board", judged(bins / "board_judge", A, bytes(65537)), b"REFUSED 0 65536\n")
+    for name, (first, second, due) in PANELS.items():
+        expect(f"panel {name}", in_folder(bins / "panel_joiner", first=first, second=second), due)
     for failure in failures:
         print(failure)
     print(f"examples: {'all as in the paper' if not failures else f'{len(failures)} differ'}")

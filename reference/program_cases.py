@@ -1,4 +1,4 @@
-"""Cases for the four programs: what each is given and what it must write, to the byte."""
+"""Cases for the five programs: what each is given and what it must write, to the byte."""
 import random
 import re
 import subprocess
@@ -6,6 +6,7 @@ from pathlib import Path
 
 import channel
 import examples
+import panel_lists
 import random_boards
 import random_channels
 import random_texts
@@ -15,39 +16,42 @@ import text_cases
 
 BINS = Path(__file__).resolve().parent.parent / "target" / "bin"
 DUE = {"listing": channel.listing, "board_writer": channel.board, "ring_finder": channel.ring_lines}
+FILED = {"board_judge": channel.judged, "panel_joiner": channel.panel}  # what is due of two files
+FILES = {"board_judge": ("pins", "board"), "panel_joiner": ("first", "second")}
 FORM_SHOWN = re.compile(rb"TOP[ 0-9]+\r?\nBOT[ 0-9]+\r?\n")
 
 
 class Case:
-    """A program, its input (for the judge the files `pins` and `board`, None if absent) and the output due."""
+    """A program, its input (a pin list; of the judge and of the panel joiner two files, None if absent) and the output
+    due."""
 
-    def __init__(self, program, pins, board=None):
-        self.program, self.pins, self.board = program, pins, board
-        if program == "board_judge":
-            self.due = channel.judged(pins or b"", board or b"")
+    def __init__(self, program, *inputs):
+        self.program, self.inputs = program, inputs
+        if program in FILES:
+            self.due = FILED[program](*(data or b"" for data in inputs))
         else:
-            self.due = DUE[program](pins)
+            self.due = DUE[program](*inputs)
 
     def run(self):
         """What the program writes, or how it ended if it failed."""
         try:
-            if self.program == "board_judge":
-                return examples.judged(BINS / self.program, self.pins, self.board)
-            return examples.run(BINS / self.program, self.pins)
+            if self.program in FILES:
+                return examples.in_folder(BINS / self.program, **dict(zip(FILES[self.program], self.inputs)))
+            return examples.run(BINS / self.program, *self.inputs)
         except subprocess.CalledProcessError as failure:
             return b"ended with status %d" % failure.returncode
 
     def number(self):
-        """The number after REFUSED, or None for a listing, a board, a good one, a ring or none."""
+        """The number after REFUSED, or None for a listing, a board, a good one, a ring or none, a joined list."""
         match = re.match(rb"REFUSED (\d+) ", self.due)
         return int(match.group(1)) if match else None
 
     def shown(self):
-        lines = [self.program, shown_file("pins", self.pins)]
-        if FORM_SHOWN.fullmatch(self.pins or b""):
-            lines += self.pins.decode("ascii").splitlines()
-        if self.program == "board_judge":
-            lines.append(shown_file("board", self.board))
+        lines = [self.program]
+        for name, data in zip(FILES.get(self.program, ("pins",)), self.inputs):
+            lines.append(shown_file(name, data))
+            if FORM_SHOWN.fullmatch(data or b""):
+                lines += data.decode("ascii").splitlines()
         return "\n".join(lines)
 
 
@@ -145,7 +149,31 @@ def file_job(rng):
     yield Case("board_judge", text, channel.encode(4, 2, full) + bytes(rng.randint(1, 9)))
 
 
-JOBS = ((long_job, 1), (wide_job, 1), (file_job, 1), (bench_job, 1), (board_job, 2), (text_job, 2), (ring_job, 1))
+def panel_job(rng):
+    """Two lists on one panel, drawn and by hand, texts with slips among them."""
+    for _ in range(60):
+        yield Case("panel_joiner", *(random_texts.typed(rng, *rows) for rows in panel_lists.drawn(rng)))
+    for _ in range(30):
+        yield Case("panel_joiner", *(random_texts.drawn(rng, *rows) for rows in panel_lists.fitting(rng)))
+    for first, second, _ in panel_lists.JOINED + panel_lists.REFUSED:
+        if all(row for row in (*first, *second)):  # a text has a number in each line
+            yield Case("panel_joiner", text_cases.text(*first), text_cases.text(*second))
+
+
+def panel_file_job(_):
+    """Files that are absent, empty, garbled, refused or about the limit; `first` is refused before `second` is read."""
+    text, long = text_cases.GOOD, bytes(channel.LIMIT + 1)
+    spaced = b"TOP" + b" " * (channel.LIMIT - 11) + b"1\nBOT 1\n"
+    some = (None, b"", text, text_cases.PADDED, b"TOP 01", b"TOP 1\r", text_cases.text([1, 1], [0]),
+            text_cases.text([512], [0]), text_cases.text([0] * 513, [0]), spaced, b" " + spaced, long[:-1], long)
+    yield from (Case("panel_joiner", first, second) for first in some for second in some)
+    for whole in list(random_texts.long_texts())[::4]:
+        yield Case("panel_joiner", whole, text)
+        yield Case("panel_joiner", text, whole)
+
+
+JOBS = ((long_job, 1), (wide_job, 1), (file_job, 1), (bench_job, 1), (board_job, 2), (text_job, 2), (ring_job, 1),
+        (panel_job, 1), (panel_file_job, 1))
 
 
 def jobs(seed):

@@ -11,6 +11,8 @@ import form_checks
 import layout_search
 import looks_checks
 import own_checks
+import panel_checks
+import panel_lists
 import parked_checks
 import program_cases
 import random_boards
@@ -20,6 +22,7 @@ import small_channels
 import text_cases
 import turned_checks
 import wrong_own
+import wrong_panels
 
 ROWS = ([0, 1, 2, 3], [1, 2, 0, 3])
 PINS = "TOP 0 1 2 3\nBOT 1 2 0 3"
@@ -41,6 +44,17 @@ WRONG_SWEEPS = ("FORGETS", "TRUNKS", "BRANCHES", "BESIDE", "STARTS", "CONTACTS",
 WRONG_RINGS = ("WALK", "HIGHEST_COLUMN", "HIGHEST_NET", "NO_PAIR", "TURNED", "ENDS", "LONGER", "TOUCHED", "ROOM",
                "LATE")
 NOT_SMALL = ("ROOM", "LATE")
+# The wrong entries of wrong_panels.c: the cases of both jobs with two lists tell each, and so do the request's words.
+WRONG_PANELS = ("COUNT", "TOP_ALONE", "UNPARKED", "ZEROS", "BEFORE", "TANGLED", "SECOND_FIRST", "THROUGH", "LATE_WIDE",
+                "EARLY_WIDE", "COLUMNS", "NARROW", "FIRST_MET", "LAST_MET", "POSITION", "LOW", "HIGH", "WRITTEN",
+                "CLEARED", "ROOM", "LATE")
+# Two lists, rows that are not theirs joined, and what is then said to be wrong.
+NOT_JOINED = (
+    (panel_lists.A, panel_lists.C, ([0, 1, 2, 3, 0, 0], [1, 2, 0, 3, 0, 0]), "tangled"),
+    (panel_lists.A, panel_lists.A, panel_lists.B, "density"),
+    (([1, 2, 1, 2], [0, 0, 0, 0]), panel_lists.F, ([2, 1, 2, 1, 0], [0, 0, 0, 0, 0]), "tracks"),
+    (([1, 2, 1, 2], [0, 0, 0, 0]), panel_lists.F, ([1, 2, 1, 2, 0], [0, 1, 0, 0, 0]), "chain"),
+)
 # Forms that get Req 01 wrong: what they take before a number, and at the end of a line.
 WRONG_FORMS = {
     "no runs of spaces": (b" ", rb"\r?\n"), "tabs": (rb"[ \t]+", rb"\r?\n"), "no carriage return": (b" +", rb"\n"),
@@ -63,9 +77,11 @@ def wrong_dues(cases, answers, first_difference):
 
 
 def program_faults(first_difference):
-    inputs = (("listing",), ("board_writer",), ("board_judge", FILE), ("board_judge", None), ("ring_finder",))
+    inputs = (("listing",), ("board_writer",), ("board_judge", FILE), ("board_judge", None), ("ring_finder",),
+              ("panel_joiner", text_cases.PADDED), ("panel_joiner", None))
     cases = [program_cases.Case(program, text_cases.GOOD, *board) for program, *board in inputs]
-    if PINS not in cases[0].shown() or FILE.hex() not in cases[2].shown():
+    if PINS not in cases[0].shown() or any(data.hex() not in cases[i].shown()
+                                           for i, data in ((2, FILE), (5, text_cases.PADDED))):
         yield "a program's input is not shown"
     yield from wrong_dues(cases, [case.run() for case in cases], first_difference)
 
@@ -73,16 +89,18 @@ def program_faults(first_difference):
 def entry_questions():
     return [batch.read(text_cases.GOOD), batch.bounds(*ROWS), batch.route(*ROWS), batch.judge(*ROWS, FILE),
             batch.blank(9), batch.looks(*ROWS), batch.ceiling(*ROWS), batch.own_blank([8, 12], 9),
-            batch.fewest_ring(*ROWS), batch.route([1, 2], [2, 1]), batch.fewest_ring([1, 2], [2, 1])]
+            batch.fewest_ring(*ROWS), batch.join(ROWS, ([1, 2], [2, 1])), batch.route([1, 2], [2, 1]),
+            batch.fewest_ring([1, 2], [2, 1]), batch.join(([1, 2], [2, 1]), ROWS)]
 
 
 def entry_faults(first_difference):
     cases = entry_questions()
     shown = [case.shown() for case in cases]
-    if any(PINS not in shown[i] for i in (1, 2, 3, 5, 6, 8)) or FILE.hex() not in shown[3] or "8 12" not in shown[7]:
+    if (any(PINS not in shown[i] for i in (1, 2, 3, 5, 6, 8, 9, -1)) or FILE.hex() not in shown[3]
+            or "8 12" not in shown[7] or any("TOP 1 2\nBOT 2 1" not in shown[i] for i in (9, -1))):
         yield "an entry's input is not shown"
     yield from wrong_dues(cases, batch.answers([case.question for case in cases]), first_difference)
-    missing = batch.answers([cases[0].question, b"\x09" + bytes(batch.HEADER.size - 1), cases[1].question])
+    missing = batch.answers([cases[0].question, b"\x0a" + bytes(batch.HEADER.size - 1), cases[1].question])
     if len(missing) != 3 or missing[0] != cases[0].due or "no answer" not in missing[1]:
         yield "a batch program that ends too soon is not told"
 
@@ -94,8 +112,8 @@ def buffer_faults():
     due = ["0 1 top 0 kept bot 0 changed 2048 inputs kept", "0 0 inputs changed",
            "7 1 ring 1 2 changed 8 board changed -1 inputs kept", "0 2 scratch changed 20476 inputs kept",
            "14 9 inputs kept", "0 1 inputs changed", "0 3 inputs changed", "16 9 inputs changed",
-           "0 1 ring 3 4 changed 8 inputs kept"]
-    for line, wanted in zip(batch.answers([case.question for case in entry_questions()[:9]], program), due):
+           "0 1 ring 3 4 changed 8 inputs kept", "0 1 top 5 changed 4 bot 5 kept inputs changed"]
+    for line, wanted in zip(batch.answers([case.question for case in entry_questions()[:10]], program), due):
         if line != wanted:
             yield f"a spoilt byte is told as '{line}', due '{wanted}'"
 
@@ -172,6 +190,48 @@ def ring_entry_faults(first_difference):
             found[job] = first_difference(asked, batch.answers([case.question for case in asked], program))
         for name, told in found.items():
             if (told is None) != (wrong == "NOTHING") or "no answer" in str(told):
+                yield f"the wrong entry {wrong} is not found by {name}, or a right one is called wrong: {told}"
+
+
+def panel_faults():
+    """Programs that get two lists on one panel wrong, by the request's words; rows that are not the joined ones, by
+    what a joined list is; and three lists that differ with their grouping."""
+    questions = panel_checks.by_hand()
+    with wrong_panels.program():
+        if list(panel_checks.differences(questions)):
+            yield "a right joining of two lists is called wrong"
+    for name, slip in wrong_panels.SLIPS.items():
+        with wrong_panels.program(**slip):
+            if not any(panel_checks.differences(questions)):
+                yield f"a program that gets two lists on one panel wrong is not found: {name}"
+    told = panel_checks.Told([rows for lists in NOT_JOINED for rows in lists[:3]], batch.PROGRAM)
+    for first, second, rows, words in NOT_JOINED:
+        if words not in str(panel_checks.joined_fault(first, second, rows)):
+            yield f"rows that are not those of {first} and {second} are not found: {words}"
+        if not panel_checks.entry_fault(told, (first, second, None), rows):
+            yield f"rows that are not those of {first} and {second} are not found by the entries: {words}"
+    rows, other = (0, panel_lists.A), (0, panel_lists.B)
+    if panel_checks.grouping_fault(rows, rows) or panel_checks.grouping_fault((3, 513), (18, 512)):
+        yield "three lists that come out the same are called different"
+    if not all(panel_checks.grouping_fault(rows, wrong) for wrong in (other, (18, 512))):
+        yield "three lists that differ with their grouping are not found"
+
+
+def panel_entry_faults(first_difference):
+    """Entries that get them wrong, on cases made by hand, on cases as they are drawn, and by the request's words."""
+    asked, program = panel_checks.by_hand(), batch.PROGRAM.with_name("batch_panels")
+    threes = [*panel_checks.small_threes(), *panel_checks.drawn_threes("self-test", 100)]
+    jobs = {job: entry_cases.made(("self-test", job, 0))[0] for job in ("fixed_panel_job", "panel_job")}
+    for wrong in ("NOTHING", *WRONG_PANELS):
+        batch.build(program=program, source="wrong_panels.c", flags=[f"-DWRONG={wrong}"])
+        found = {"the request's words": next(panel_checks.entry_differences(asked, program), None)}
+        for job, cases in jobs.items():
+            found[job] = first_difference(cases, batch.answers([case.question for case in cases], program))
+        if wrong in ("NOTHING", "COUNT", "UNPARKED"):  # others come out the same in either grouping
+            found["three lists"] = next(panel_checks.three_differences(
+                threes, lambda pairs: panel_checks.entry_joined(pairs, program)), None)
+        for name, told in found.items():
+            if (told is None) != (wrong == "NOTHING") or "no answer" in str(told) or "broken: nothing" in str(told):
                 yield f"the wrong entry {wrong} is not found by {name}, or a right one is called wrong: {told}"
 
 
@@ -274,7 +334,7 @@ def parked_record_faults(first_difference):
     """A listing program that has a record for each parked net, on cases as they are drawn; copper on a parked pin."""
     drawn = program_cases.text_job(random.Random("self-test"))
     cases = [case for case in drawn if case.program == "listing"]
-    if not first_difference(cases, [with_parked_records(case.pins) for case in cases]):
+    if not first_difference(cases, [with_parked_records(*case.inputs) for case in cases]):
         yield "a record for a parked net is not found"
     text = text_cases.text([7, 5, 7], [0, 0, 0])
     rows = channel.parse(text)
@@ -326,17 +386,18 @@ def reader_faults(first_difference):
 
 def compare(first_difference, lacking):
     """The first fault of the comparison, or None; and what was tried, in words."""
-    faults = [*form_checks.faults(), *looks_checks.faults(), *ring_checks.faults(), *program_faults(first_difference),
-              *entry_faults(first_difference), *buffer_faults(), *search_faults(),
+    faults = [*form_checks.faults(), *looks_checks.faults(), *ring_checks.faults(), *panel_checks.faults(),
+              *program_faults(first_difference), *entry_faults(first_difference), *buffer_faults(), *search_faults(),
               *parked_entry_faults(first_difference), *looks_entry_faults(first_difference),
-              *ring_entry_faults(first_difference), *own_faults(), *own_entry_faults(first_difference),
+              *ring_entry_faults(first_difference), *panel_faults(), *panel_entry_faults(first_difference),
+              *own_faults(), *own_entry_faults(first_difference),
               *sweep_entry_faults(first_difference), *turned_faults(), *turned_entry_faults(),
               *parked_record_faults(first_difference), *reader_faults(first_difference)]
     if lacking({1, 2}, {1, 2, 3}) is None or lacking({1, 2}, {1, 2}):
         faults.append("a number that is never answered is not told")
     return faults[0] if faults else None, (
-        "the form is as its states say, looks as they are counted one by one, and the ring with the fewest nets that of"
-        " all rings; wrong answers of programs and entries, spoilt buffers, a wrong search, readers that get spaces or"
-        " line ends wrong, records, copper, steps, density and a judge that get parked pins wrong, wrong looks and"
-        " ceilings, wrong rings, wrong choices of own blanks, judges that get a sweep of lines wrong, and what gets a"
-        " board turned over wrong are found and shown")
+        "the form is as its states say, looks as they are counted one by one, the ring with the fewest nets that of all"
+        " rings, and lists joined by hand as they are joined; wrong answers of programs and entries, spoilt buffers, a"
+        " wrong search, readers that get spaces or line ends wrong, records, copper, steps, density and a judge that"
+        " get parked pins wrong, wrong looks and ceilings, wrong rings, wrong panels, wrong choices of own blanks,"
+        " judges that get a sweep of lines wrong, and what gets a board turned over wrong are found and shown")

@@ -77,6 +77,19 @@ uint64_t cabjirt_fewest_ring(const uint32_t *top, size_t top_length, const uint3
     return told(0, 1);
 }
 
+/* One column, the number behind it in TOP, and the last byte of the second list's BOT. */
+uint64_t cabjirt_join(const uint32_t *top1, size_t top1_length, const uint32_t *bot1, size_t bot1_length,
+                      const uint32_t *top2, size_t top2_length, const uint32_t *bot2, size_t bot2_length,
+                      uint32_t *top, size_t top_length, uint32_t *bot, size_t bot_length)
+{
+    (void)top1, (void)top1_length, (void)bot1, (void)bot1_length, (void)top2, (void)top2_length, (void)top_length;
+    (void)bot_length;
+    top[0] = bot[0] = 5;
+    spoil(top, 4);
+    spoil((uint32_t *)bot2, (ptrdiff_t)(bot2_length * sizeof *bot2) - 1);
+    return told(0, 1);
+}
+
 /* A changed table. */
 uint64_t cabjirt_own_blank(const uint32_t *table, size_t table_length, uint32_t tracks)
 {

@@ -38,8 +38,9 @@
  *   14  no blank     the tracks wanted
  *   15  bad table    the first bad entry of a table of blanks, from 1; 0 if it has no entry, or more than 64
  *   16  no stock     the tracks wanted, which no entry of the table holds
+ *   18  panel full   the lowest raised number over 511: 512 to 1022
  *
- * The number 6 is not used.
+ * The numbers 6 and 17 are not used.
  */
 #ifndef CABJIRT_CHANNEL_H
 #define CABJIRT_CHANNEL_H
@@ -70,6 +71,24 @@ static inline uint32_t cabjirt_value(uint64_t answer) { return (uint32_t)answer;
  * 5. */
 uint64_t cabjirt_read(const uint8_t *text, size_t text_length, uint32_t *top, size_t top_length, uint32_t *bot,
                       size_t bot_length);
+
+/* Joins two lists on one panel: the second's columns follow the first's, and its net numbers are raised by the highest
+ * number of the first, parked ones counted; 0 stays 0. Value: the joined width w; the first w numbers of each joined
+ * row are the joined list's, the rest stay. The joined list is tangled exactly if either part is, and a tangled one may
+ * be joined; otherwise each net is routed on the track that it has alone, and the tracks, density and chain are the
+ * larger ones of both. Three lists that fit give the same rows in either grouping. Refusals, the first that applies:
+ *
+ *     1         a joined row is lent below CABJIRT_ROW numbers
+ *     3 to 5    of the first list
+ *     3 to 5    of the second list; its places are those that it has alone
+ *     3         the columns of both exceed 512
+ *     18        a raised number exceeds 511
+ *
+ * Which list is refused the number does not tell: cabjirt_bounds of the first, else of the second gives the same
+ * refusal, and none of either where the panel itself is too wide or full. */
+uint64_t cabjirt_join(const uint32_t *top1, size_t top1_length, const uint32_t *bot1, size_t bot1_length,
+                      const uint32_t *top2, size_t top2_length, const uint32_t *bot2, size_t bot2_length,
+                      uint32_t *top, size_t top_length, uint32_t *bot, size_t bot_length);
 
 /* The bounds of a channel. Value: density * 65536 + chain; a tangled channel has chain 0. Refusals 3 to 5. No good
  * board has fewer tracks than the density, and none with at most one trunk a net fewer than the chain. */

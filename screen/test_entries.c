@@ -222,6 +222,138 @@ static void finding_the_largest(void)
     expect_same("its pairs", ring, pairs, sizeof pairs);
 }
 
+/* A list for a panel; its rows may differ in length. */
+struct list {
+    const uint32_t *top, *bot;
+    size_t top_length, bot_length;
+};
+
+static uint64_t join_into(struct list first, struct list second, uint32_t *over, size_t over_length, uint32_t *under,
+                          size_t under_length)
+{
+    return cabjirt_join(first.top, first.top_length, first.bot, first.bot_length, second.top, second.top_length,
+                        second.bot, second.bot_length, over, over_length, under, under_length);
+}
+
+/* Joins two lists into rows of one number more than is needed, all 0x55 before, and compares the whole of both. */
+static void expect_join(const char *what, struct list first, struct list second, struct list due)
+{
+    uint32_t over[CABJIRT_ROW + 1], under[CABJIRT_ROW + 1], same[CABJIRT_ROW + 1];
+    memset(over, 0x55, sizeof over);
+    memset(under, 0x55, sizeof under);
+    memset(same, 0x55, sizeof same);
+    expect(what, join_into(first, second, over, CABJIRT_ROW + 1, under, CABJIRT_ROW + 1), 0, (uint32_t)due.top_length);
+    expect_same(what, over, due.top, due.top_length * sizeof *over);
+    expect_same(what, under, due.bot, due.bot_length * sizeof *under);
+    expect_same(what, over + due.top_length, same, sizeof same - due.top_length * sizeof *over);
+    expect_same(what, under + due.bot_length, same, sizeof same - due.bot_length * sizeof *under);
+}
+
+/* Joins two lists into rows that hold 0x55, which a refusal has to leave. */
+static void expect_no_join(const char *what, struct list first, struct list second, uint32_t number, uint32_t place)
+{
+    uint32_t over[CABJIRT_ROW], under[CABJIRT_ROW], same[CABJIRT_ROW];
+    memset(over, 0x55, sizeof over);
+    memset(under, 0x55, sizeof under);
+    memset(same, 0x55, sizeof same);
+    expect(what, join_into(first, second, over, CABJIRT_ROW, under, CABJIRT_ROW), number, place);
+    expect_same(what, over, same, sizeof same);
+    expect_same(what, under, same, sizeof same);
+}
+
+/* A list of so many columns from two rows. */
+static struct list list_of(const uint32_t *over, const uint32_t *under, size_t width)
+{
+    return (struct list){over, under, width, width};
+}
+
+static const uint32_t over_a[] = {0, 1, 2, 3}, under_a[] = {1, 2, 0, 3}, over_c[] = {1, 2}, under_c[] = {2, 1};
+static const uint32_t none[CABJIRT_ROW + 1], five[] = {5}, far[] = {0, UINT32_MAX}, most[] = {511};
+
+static void joining(void)
+{
+    struct list a = list_of(over_a, under_a, 4), c = list_of(over_c, under_c, 2), g = list_of(five, five, 1);
+    struct list f = list_of(none, none, 1), high = list_of(most, most, 1);
+    static const uint32_t parked[] = {1, 1, 9}, ten[] = {10};
+    expect_join("A with A", a, a, list_of((const uint32_t[]){0, 1, 2, 3, 0, 4, 5, 6},
+                                          (const uint32_t[]){1, 2, 0, 3, 4, 5, 0, 6}, 8));
+    expect_join("A with C, which is tangled", a, c, list_of((const uint32_t[]){0, 1, 2, 3, 4, 5},
+                                                            (const uint32_t[]){1, 2, 0, 3, 5, 4}, 6));
+    expect_join("C with A", c, a, list_of((const uint32_t[]){1, 2, 0, 3, 4, 5},
+                                          (const uint32_t[]){2, 1, 3, 4, 0, 5}, 6));
+    expect_join("G with G, gaps", g, g, list_of((const uint32_t[]){5, 10}, (const uint32_t[]){5, 10}, 2));
+    expect_join("no net in the first", f, c, list_of((const uint32_t[]){0, 1, 2}, (const uint32_t[]){0, 2, 1}, 3));
+    expect_join("no net in the second", high, f, list_of((const uint32_t[]){511, 0}, (const uint32_t[]){511, 0}, 2));
+    expect_join("the highest is parked", list_of(parked, none, 3), list_of(ten, ten, 1),
+                list_of((const uint32_t[]){1, 1, 9, 19}, (const uint32_t[]){0, 0, 0, 19}, 4));
+    expect_join("raised to 511", list_of((const uint32_t[]){501}, (const uint32_t[]){501}, 1), list_of(ten, none, 1),
+                list_of((const uint32_t[]){501, 511}, (const uint32_t[]){501, 0}, 2));
+    expect_join("512 columns", list_of(none, none, 512 - 4), list_of(none, none, 4), list_of(none, none, 512));
+}
+
+static void not_joining(void)
+{
+    static const uint32_t several[] = {9, 4, 1}, under[] = {7, 2, 3};
+    struct list a = list_of(over_a, under_a, 4), c = list_of(over_c, under_c, 2), empty = {NULL, NULL, 0, 0};
+    struct list high = list_of(most, most, 1), bad = list_of(none, far, 2), wide = list_of(none, none, 513);
+    uint32_t over[CABJIRT_ROW], lower[CABJIRT_ROW], ones[CABJIRT_ROW];
+    for (size_t i = 0; i < CABJIRT_ROW; i++)
+        ones[i] = 1;
+    expect("a short joined TOP", join_into(a, a, over, CABJIRT_ROW - 1, lower, CABJIRT_ROW), 1, CABJIRT_ROW);
+    expect("a short joined BOT", join_into(a, a, over, CABJIRT_ROW, lower, CABJIRT_ROW - 1), 1, CABJIRT_ROW);
+    expect("no joined rows", join_into(a, a, NULL, 0, NULL, 0), 1, CABJIRT_ROW);
+    expect("no joined rows, and both refused", join_into(empty, wide, NULL, 0, NULL, 0), 1, CABJIRT_ROW);
+    expect_no_join("an empty first", empty, a, 4, 1);
+    expect_no_join("an empty second", a, empty, 4, 1);
+    expect_no_join("both empty", empty, empty, 4, 1);
+    expect_no_join("an uneven second", a, (struct list){over_a, under_a, 4, 3}, 4, 4);
+    expect_no_join("no BOT in the second", a, (struct list){over_a, NULL, 4, 0}, 4, 1);
+    expect_no_join("a high net in the first", bad, empty, 5, 4);
+    expect_no_join("a high net in the second", high, bad, 5, 4);
+    expect_no_join("a wide first", wide, bad, 3, 513);
+    expect_no_join("a wide second", a, wide, 3, 513);
+    expect_no_join("513 columns together", list_of(none, none, 511), c, 3, 513);
+    expect_no_join("515 columns together", list_of(none, none, 511), a, 3, 513);
+    expect_no_join("513 columns, and the second refused", list_of(none, none, 512), bad, 5, 4);
+    expect_no_join("too wide and full", list_of(most, most, 1), list_of(ones, none, 512), 3, 513);
+    expect_no_join("raised to 512", high, c, 18, 512);
+    expect_no_join("raised to 1022", high, high, 18, 1022);
+    expect_no_join("the lowest of several", list_of((const uint32_t[]){510}, none, 1), list_of(several, under, 3), 18,
+                   512);
+}
+
+/* Two lists of 256 columns, each a chain of 255 nets with a pin in every place: the panel takes as many tracks as each
+ * alone, and twice the pieces. */
+static void joining_halves(void)
+{
+    uint32_t over[256], under[256], joined[2][CABJIRT_ROW];
+    for (uint32_t i = 0; i < 256; i++) {
+        over[i] = i == 0 || i == 255 ? 1 : i;
+        under[i] = i == 0 || i == 255 ? 255 : i + 1;
+    }
+    struct list half = list_of(over, under, 256);
+    uint32_t alone = cabjirt_value(route_rows(over, under, 256)), pieces = alone / 65536, tracks = alone % 65536;
+    expect("two halves", join_into(half, half, joined[0], CABJIRT_ROW, joined[1], CABJIRT_ROW), 0, CABJIRT_ROW);
+    expect("their board", route_rows(joined[0], joined[1], CABJIRT_ROW), 0, 2 * pieces * 65536 + tracks);
+    expect("their bounds", cabjirt_bounds(joined[0], CABJIRT_ROW, joined[1], CABJIRT_ROW), 0,
+           cabjirt_value(cabjirt_bounds(over, 256, under, 256)));
+    expect_same("the last of their numbers", &joined[1][CABJIRT_ROW - 1], (const uint32_t[]){510}, sizeof **joined);
+}
+
+/* Joins three lists, the first two first or the last two first; the rows of both ways have to be the same. */
+static void joining_three(void)
+{
+    uint32_t inner[2][CABJIRT_ROW], left[2][CABJIRT_ROW] = {{0}}, right[2][CABJIRT_ROW] = {{0}};
+    struct list a = list_of(over_a, under_a, 4), c = list_of(over_c, under_c, 2), g = list_of(five, five, 1);
+    expect("A with C", join_into(a, c, inner[0], CABJIRT_ROW, inner[1], CABJIRT_ROW), 0, 6);
+    expect("then G", join_into(list_of(inner[0], inner[1], 6), g, left[0], CABJIRT_ROW, left[1], CABJIRT_ROW), 0, 7);
+    expect("C with G", join_into(c, g, inner[0], CABJIRT_ROW, inner[1], CABJIRT_ROW), 0, 3);
+    expect("A before", join_into(a, list_of(inner[0], inner[1], 3), right[0], CABJIRT_ROW, right[1], CABJIRT_ROW), 0,
+           7);
+    expect_same("either grouping", left, right, sizeof left);
+    expect_same("TOP of three", left[0], (const uint32_t[]){0, 1, 2, 3, 4, 5, 10}, 7 * sizeof *left[0]);
+}
+
 static void blanks(void)
 {
     expect("blank 0", cabjirt_blank(0), 0, 8);
@@ -274,6 +406,10 @@ int main(void)
     judging();
     finding_rings();
     finding_the_largest();
+    joining();
+    not_joining();
+    joining_halves();
+    joining_three();
     parking();
     looking();
     blanks();

@@ -20,7 +20,7 @@ use Rattle.cases.specs.Cases.{
   rowRoom,
   rowsFit,
   rowsWhole,
-  judgeWhole,
+  besideWhole,
 }
 
 module _ (row : List ℕ) (i : ℕ) where
@@ -73,9 +73,9 @@ module _ (bytes : List ℕ) where
   unfolding rowsWhole
   rows-short h = sym (rw (lt-leb 2 (length bytes) h))
 
-  pub judge-short : length bytes < 2 → false ≡ judgeWhole bytes
-  unfolding judgeWhole
-  judge-short h = sym (rw (lt-leb 2 (length bytes) h))
+  pub beside-short : length bytes < 2 → false ≡ besideWhole bytes
+  unfolding besideWhole
+  beside-short h = sym (rw (lt-leb 2 (length bytes) h))
 
   module _ (h : 2 ≤ length bytes) {a : ℕ} (e : a ≡ numberAt bytes 0) where
     pub rows-few : (length bytes - 2) / 2 < a → false ≡ rowsWhole bytes
@@ -87,10 +87,10 @@ module _ (bytes : List ℕ) where
     unfolding rowsWhole
     rows-enough k = sym (rw (le-leb 2 (length bytes) h, ← e, le-leb a ((length bytes - 2) / 2) k))
 
-    pub judge-few : length bytes < 2 + a → false ≡ judgeWhole bytes
-    unfolding judgeWhole
-    judge-few k = sym (rw (le-leb 2 (length bytes) h, ← e, lt-leb (2 + a) (length bytes) k))
+    pub beside-few : length bytes < 2 + a → false ≡ besideWhole bytes
+    unfolding besideWhole
+    beside-few k = sym (rw (le-leb 2 (length bytes) h, ← e, lt-leb (2 + a) (length bytes) k))
 
-    pub judge-enough : 2 + a ≤ length bytes → rowsWhole (take a (drop 2 bytes)) ≡ judgeWhole bytes
-    unfolding judgeWhole
-    judge-enough k = sym (rw (le-leb 2 (length bytes) h, ← e, le-leb (2 + a) (length bytes) k))
+    pub beside-enough : 2 + a ≤ length bytes → rowsWhole (take a (drop 2 bytes)) ≡ besideWhole bytes
+    unfolding besideWhole
+    beside-enough k = sym (rw (le-leb 2 (length bytes) h, ← e, le-leb (2 + a) (length bytes) k))

@@ -41,8 +41,8 @@ rowsWhole bytes =
     let all = (length bytes - 2) / 2 in
     leb 2 (length bytes) && (leb a all && rowsFit a (all - a) rowRoom rowRoom)
 
--- the length of the rows' bytes in two bytes, the rows, and a board
-unfoldable pub judgeWhole : List ℕ → Bool
-judgeWhole bytes =
+-- the length of the rows' bytes in two bytes, the rows, and what goes with them
+unfoldable pub besideWhole : List ℕ → Bool
+besideWhole bytes =
     let size = numberAt bytes 0 in
     leb 2 (length bytes) && (leb (2 + size) (length bytes) && rowsWhole (take size (drop 2 bytes)))

@@ -3,9 +3,10 @@ ghost use mathlib.Core.Path.{_≡_};
 ghost use Prim.Native.Nat.{_*_, _≤_, min};
 ghost use lib.ListN.{length};
 ghost use Rattle.refusal.specs.Trays.{recordTray};
-ghost use Rattle.cases.specs.Cases.{rowsFit, rowsWhole, judgeWhole};
+ghost use Rattle.cases.specs.Cases.{rowsFit, rowsWhole, besideWhole};
 use crate::boards;
 use crate::output;
+use crate::panels;
 use crate::rows;
 use channel::BoundsAnswer;
 use channel::RowsAnswer;
@@ -164,8 +165,9 @@ fn put_judged(top: &[u32], bot: &[u32], board: &[u8]) {
     }
 }
 
-// Asks the question of a kind about two rows, which for 9 are a table of blanks and tracks; `board` is for the judge.
-fn ask(kind: u8, top: &[u32], bot: &[u32], board: &[u8]) {
+// Asks the question of a kind about two rows, which for 9 are a table of blanks and tracks; `beside` is the board for the
+// judge, and the second list for the panel.
+fn ask(kind: u8, top: &[u32], bot: &[u32], beside: &[u8]) {
     match kind {
         4 => put_check(top, bot),
         5 => put_bounds(top, bot),
@@ -173,7 +175,8 @@ fn ask(kind: u8, top: &[u32], bot: &[u32], board: &[u8]) {
         8 => put_progress(top, bot),
         9 => boards::put_own(top, bot),
         10 => put_fewest(top, bot),
-        _ => put_judged(top, bot, board),
+        11 => panels::put_joined(top, bot, beside),
+        _ => put_judged(top, bot, beside),
     }
 }
 
@@ -184,7 +187,7 @@ fn ask_rows(
     bytes: &[u8],
     a: usize,
     b: usize,
-    board: &[u8],
+    beside: &[u8],
     top: &mut [u32],
     bot: &mut [u32],
 ) -> bool
@@ -199,12 +202,12 @@ fn ask_rows(
     }
     rows::read_row(bytes, 2, &mut top[..a]);
     rows::read_row(bytes, 2 + 2 * a, &mut bot[..b]);
-    ask(kind, &top[..a], &bot[..b], board);
+    ask(kind, &top[..a], &bot[..b], beside);
     true
 }
 
 // The same where the length of TOP stands in front of the rows.
-fn ask_sized(kind: u8, bytes: &[u8], board: &[u8]) -> bool
+fn ask_sized(kind: u8, bytes: &[u8], beside: &[u8]) -> bool
     ensures { λ r. ⌜ r ≡ rowsWhole (now (bytes .entry)) ⌝ }
 {
     if bytes.len() < 2 {
@@ -217,7 +220,7 @@ fn ask_sized(kind: u8, bytes: &[u8], board: &[u8]) -> bool
     }
     let mut top = [0u32; 1024];
     let mut bot = [0u32; 1024];
-    ask_rows(kind, bytes, a, all - a, board, &mut top, &mut bot)
+    ask_rows(kind, bytes, a, all - a, beside, &mut top, &mut bot)
 }
 
 pub fn answer_check(bytes: &[u8]) -> bool
@@ -256,9 +259,10 @@ pub fn answer_fewest(bytes: &[u8]) -> bool
     ask_sized(10, bytes, b"")
 }
 
-// The length of the rows' bytes in two bytes, the rows, and a board.
-pub fn answer_judge(bytes: &[u8]) -> bool
-    ensures { λ r. ⌜ r ≡ judgeWhole (now (bytes .entry)) ⌝ }
+// Asks the question of a kind where the length of the rows' bytes stands in front in two bytes, and behind the rows what
+// goes with them.
+fn ask_beside(kind: u8, bytes: &[u8]) -> bool
+    ensures { λ r. ⌜ r ≡ besideWhole (now (bytes .entry)) ⌝ }
 {
     if bytes.len() < 2 {
         return false;
@@ -267,5 +271,19 @@ pub fn answer_judge(bytes: &[u8]) -> bool
     if bytes.len() < end {
         return false;
     }
-    ask_sized(7, &bytes[2..end], &bytes[end..])
+    ask_sized(kind, &bytes[2..end], &bytes[end..])
+}
+
+// Rows, and a board behind them.
+pub fn answer_judge(bytes: &[u8]) -> bool
+    ensures { λ r. ⌜ r ≡ besideWhole (now (bytes .entry)) ⌝ }
+{
+    ask_beside(7, bytes)
+}
+
+// Rows, and a second list behind them.
+pub fn answer_join(bytes: &[u8]) -> bool
+    ensures { λ r. ⌜ r ≡ besideWhole (now (bytes .entry)) ⌝ }
+{
+    ask_beside(11, bytes)
 }

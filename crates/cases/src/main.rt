@@ -4,6 +4,7 @@
 mod boards;
 mod channels;
 mod output;
+mod panels;
 mod rows;
 mod texts;
 
@@ -23,6 +24,7 @@ fn answer(kind: u8, bytes: &[u8]) -> bool {
         8 => channels::answer_looks(bytes),
         9 => channels::answer_own(bytes),
         10 => channels::answer_fewest(bytes),
+        11 => channels::answer_join(bytes),
         _ => false,
     }
 }

@@ -6,7 +6,7 @@ use pinlist::ReadAnswer;
 use refusal::ROW_TRAY;
 
 // Writes the width and the rows' fronts; the rest of both rows must still hold the mark.
-fn put_rows(top: &[u32; ROW_TRAY], bot: &[u32; ROW_TRAY], w: usize) {
+pub fn put_rows(top: &[u32; ROW_TRAY], bot: &[u32; ROW_TRAY], w: usize) {
     output::put_field(0);
     output::put_field(w as u64);
     output::put_word(b"\nTOP");

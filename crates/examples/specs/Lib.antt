@@ -1,3 +1,4 @@
 pub mod Starred
 pub mod OwnBlanks
 pub mod FewestRings
+pub mod Panels

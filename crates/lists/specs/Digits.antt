@@ -1,10 +1,12 @@
 -- The digits of a number in base ten: a digit behind a number makes ten times the number and the digit, and each number
--- but 0 is made so from a first digit that is not 0.
-use Prim.Native.Nat.{ℕ, zero, suc, _+_, _*_, _/_, _%_, _≤_, _<_}
+-- but 0 is made so from a first digit that is not 0. A low number has few digits.
+use Prim.Native.Nat.{ℕ, zero, suc, _+_, _*_, _/_, _%_, _^_, _≤_, _<_}
 use native.Mathlib.Omega.{arith}
+use native.Mathlib.Nat.{pow-suc}
 use mathlib.Core.Path.{_≡_, refl, sym, _∙_, ap, subst}
 use mathlib.Core.List.{List, [], _∷_, _++_, append-assoc, append-nil}
 use mathlib.Core.Logic.{_⊎_, inl, inr, ⊎-elim}
+use lib.ListN.{length, length-append}
 use lib.Dec.{ltb, ltb→lt, lt→ltb, nltb→le}
 use Rattle.lists.specs.Bytes.{digitsOf, decimal}
 use Rattle.lists.specs.Tests.{T→true, fails→false, not-passes, passes?}
@@ -48,6 +50,14 @@ pub decimal-large : (n : ℕ) → 10 ≤ n → decimal n ≡ decimal (n / 10) ++
 decimal-large n h =
     large n n h ∙ ap (λ (ds : List ℕ). ds ++ ((48 + n % 10) ∷ []))
     (enough n (suc (n / 10)) (n / 10) (omega arith) (omega arith))
+
+-- a number below a power of ten has no more digits than the power
+pub decimal-few : (k n : ℕ) → n < 10 ^ suc k → length (decimal n) ≤ suc k
+decimal-few zero n h = omega (arith, ap length (decimal-small n h))
+decimal-few (suc k) n h =
+    ⊎-elim (λ l. omega (arith, ap length (decimal-small n l)))
+    (λ l. let front = decimal-few k (n / 10) (omega (arith, pow-suc 10 (suc k))) in
+    omega (arith, ap length (decimal-large n l), length-append (decimal (n / 10)) ((48 + n % 10) ∷ []))) (below-ten? n)
 
 pub decimal-digit : (m d : ℕ) → 1 ≤ m → d < 10 → decimal (m * 10 + d) ≡ decimal m ++ ((48 + d) ∷ [])
 decimal-digit m d h k =

@@ -59,6 +59,16 @@ module _ {A : Type 0} where
         go (inr r₁) (inr r₂) rest =
             let q = rest (r₁ .0) (r₂ .0) (r₁ .2) (r₂ .2) in let q₁ = r₁ .1 in let q₂ = r₂ .1 in omega arith
 
+  -- no more than k from each
+  pub length-each-few : {B : Type 0} (k : ℕ) (f : A → List B) (xs : List A)
+      → ((x : A) → List·Memᴰ x xs → length (f x) ≤ k) → length (each f xs) ≤ k * length xs
+  unfolding each
+  length-each-few k f [] h = omega arith
+  length-each-few k f (x ∷ xs) h =
+      let here = h x (List·Memᴰ·head refl) in
+      let rest = length-each-few k f xs (λ y m. h y (List·Memᴰ·tail m)) in
+      omega (arith, length-append (f x) (each f xs))
+
   pub length-each-most : {B C : Type 0} (k : ℕ) (f : A → List B) (g : A → List C) (xs : List A)
       → ((x : A) → length (f x) ≤ 1 + k * length (g x)) → length (each f xs) ≤ length xs + k * length (each g xs)
   unfolding each

@@ -55,12 +55,12 @@ rows-short a b h = go (decLe rowTray a)
     go (no l) = let k : a < rowTray = omega arith in rw (lt-ltb a rowTray k)
 
 -- an answer is a width exactly where nothing is refused
-width-none : (o : Option Refusal) (v w : ℕ) → answered Refused o (Width v) ≡ Width w → (o ≡ none) × (v ≡ w)
+pub width-none : (o : Option Refusal) (v w : ℕ) → answered Refused o (Width v) ≡ Width w → (o ≡ none) × (v ≡ w)
 unfolding answered
 width-none none v w e = (refl, cc)
 width-none (some r) v w e = absurd (let z : _≡_ {A = ℕ} 0 1 = cc in omega arith)
 
-refused-some : (o : Option Refusal) (v : ℕ) (r : Refusal) → answered Refused o (Width v) ≡ Refused r → o ≡ some r
+pub refused-some : (o : Option Refusal) (v : ℕ) (r : Refusal) → answered Refused o (Width v) ≡ Refused r → o ≡ some r
 unfolding answered
 refused-some none v r e = absurd (let z : _≡_ {A = ℕ} 0 1 = cc in omega arith)
 refused-some (some q) v r e = cc
@@ -114,6 +114,13 @@ module _ (ch dh : Channel) where
   unfolding panelFull
   full-some m =
       some-refuse-if (ltb 0 (length (highNumbers ch dh))) _ (lt→ltb 0 (length (highNumbers ch dh)) (member-some m))
+
+  -- lists that fit are not refused together
+  pub fits-silent : Fits ch dh → panelRefusal ch dh ≡ none
+  unfolding panelRefusal
+  fits-silent fit =
+      none-or-else (panelWide ch dh) (panelFull ch dh) (narrow-none (fit .columns))
+      (empty-none (none-over ch dh (highest-low (fit .first)) (highest-low (fit .second)) (fit .numbers)))
 
   module _ (esc₁ : Escapes ch) (esc₂ : Escapes dh) where
     low₁ : highest ch ≤ highestNet
@@ -200,7 +207,7 @@ module _ (ch dh : Channel) (top bot : List ℕ) where
   unfolding joinRefusal
   long-refusal (h, k) = none-or-else-later (shortTray (trays (length top) (length bot))) _ (rows-long _ _ h k)
 
-  passed-refusal : LongRows top bot → Escapes ch → Escapes dh → refusal ≡ panelRefusal ch dh
+  pub passed-refusal : LongRows top bot → Escapes ch → Escapes dh → refusal ≡ panelRefusal ch dh
   passed-refusal long esc₁ esc₂ =
       long-refusal long
       ∙ none-or-else-later (listsRefusal ch dh) (panelRefusal ch dh) (lists-none ch dh .1 (esc₁, esc₂))
@@ -225,10 +232,7 @@ module _ (ch dh : Channel) (top bot : List ℕ) where
           (long e, panel-fits ch dh (esc .0) (esc .1) (r .1))
 
       back : LongRows top bot × Fits ch dh → refusal ≡ none
-      back (h, fit) = unfold panelRefusal in (
-          passed-refusal h (fit .first) (fit .second)
-          ∙ none-or-else (panelWide ch dh) (panelFull ch dh) (narrow-none ch dh (fit .columns))
-          (empty-none ch dh (none-over ch dh (highest-low (fit .first)) (highest-low (fit .second)) (fit .numbers))))
+      back (h, fit) = passed-refusal h (fit .first) (fit .second) ∙ fits-silent ch dh fit
 
   -- the three equations give the whole contract
   pub join-done : {r : JoinAnswer} {top′ bot′ : List ℕ} → r ≡ joinAnswer (length top) (length bot) ch dh

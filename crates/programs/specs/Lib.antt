@@ -3,3 +3,6 @@ pub mod Code
 pub mod CodeLaws
 pub mod RouteLaws
 pub mod RingLaws
+pub mod JoinLaws
+pub mod PinListLaws
+pub mod PanelLaws

@@ -1,5 +1,5 @@
--- 01, "Judge, blanks, programs", and 02, Req 05: what each of the programs writes to standard output, of the bytes that
--- it reads.
+-- 01, "Judge, blanks, programs", and 02, Req 05 and Req 09: what each of the programs writes to standard output, of the
+-- bytes that it reads.
 use Prim.Native.Nat.{ℕ}
 use mathlib.Core.List.{List, _++_}
 use mathlib.Core.Bool.{cond}
@@ -14,11 +14,14 @@ use Rattle.channel.specs.Constraints.{chain}
 use Rattle.pinlist.specs.Answers.{textRefusal, textChannel}
 use Rattle.leftedge.specs.Nets.{fill}
 use Rattle.rings.specs.Fewest.{fewest, fewestRing}
+use Rattle.panel.specs.Joined.{joined}
+use Rattle.panel.specs.Answers.{panelRefusal}
 use Rattle.boardfile.specs.Encode.{encode}
 use Rattle.judge.specs.declared.JudgeAnswer.{JudgeAnswer}
 use Rattle.judge.specs.Answers.{judgeAnswer, judgeTold}
 use Rattle.blanks.specs.Stock.{stock, smallestFor, noBlank}
 use Rattle.router.specs.Route.{tangled, ringShown, layoutDrawn, recordsMade}
+use Rattle.text.specs.Lines.{line}
 use Rattle.report.specs.Lines.{
   refusedLine,
   toldLine,
@@ -68,6 +71,14 @@ boardBytes ch = encode (width ch) (layoutDrawn ch (fill ch))
 unfoldable pub fewestLines : Channel → List ℕ
 fewestLines ch = cond (eqb (fewest ch) 0) noneLine (ringLines (fewestRing ch))
 
+-- the pin list of rows: one space before each number, one line feed at the end of each line
+unfoldable pub pinList : Channel → List ℕ
+pinList ch = line "TOP" (ch .top) ++ line "BOT" (ch .bot)
+
+-- 02, Req 09: the joined list of two lists that each pass alone, or the line of its refusal
+unfoldable pub panelLines : Channel → Channel → List ℕ
+panelLines ch dh = answered refusalLine (panelRefusal ch dh) (pinList (joined ch dh))
+
 -- "printing GOOD and tracks"
 unfoldable pub judgeLines : JudgeAnswer → List ℕ
 judgeLines a = toldLine "GOOD" (judgeTold a)
@@ -91,3 +102,7 @@ judgeOutput pins board = ofPinList (judgedAgainst board) pins
 -- a fourth finds the ring with the fewest nets of the pin list that it reads
 unfoldable pub ringOutput : List ℕ → List ℕ
 ringOutput text = ofPinList fewestLines text
+
+-- a fifth joins the pin lists in the files `first` and `second`; "each list is checked alone, one then two"
+unfoldable pub panelOutput : List ℕ → List ℕ → List ℕ
+panelOutput first second = ofPinList (λ ch. ofPinList (panelLines ch) second) first

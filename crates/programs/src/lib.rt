@@ -4,7 +4,7 @@ ghost use Prim.Native.Nat.{_≤_};
 ghost use lib.ListN.{length, take};
 ghost use Rattle.io.specs.Counts.{Counts};
 ghost use Rattle.refusal.specs.Refusals.{placeOf};
-ghost use Rattle.refusal.specs.Trays.{recordTray, ringTray};
+ghost use Rattle.refusal.specs.Trays.{rowTray, recordTray, ringTray};
 ghost use Rattle.channel.specs.Channel.{rows};
 ghost use Rattle.channel.specs.Answers.{Escapes};
 ghost use Rattle.text.specs.Lines.{Put};
@@ -12,10 +12,12 @@ ghost use Rattle.report.specs.Lines.{refusedLine, refusalLine};
 ghost use Rattle.report.specs.Code.{listingText};
 ghost use Rattle.programs.specs.Programs.{overLimit, ofFilled, listing, boardBytes, judgeLines, judgedAgainst};
 ghost use Rattle.programs.specs.Programs.{fewestLines, listingOutput, boardOutput, judgeOutput, ringOutput};
+ghost use Rattle.programs.specs.Programs.{ofPinList, pinList, panelLines, panelOutput};
 ghost use Rattle.programs.specs.Code.{unroutedText, figuresOf, pinsPass, PinsDone};
 use blanks::BlankAnswer;
 use channel::BoundsAnswer;
 use judge::JudgeAnswer;
+use panel::JoinAnswer;
 use pinlist::ReadAnswer;
 use refusal::BOARD_TRAY;
 use refusal::RING_TRAY;
@@ -288,5 +290,66 @@ pub fn judge_output(pins: &[u8], board: &[u8], out: &mut [u8]) -> usize
     match read_pins(pins, &mut top, &mut bot, out) {
         PinsRead::Refused(size) => size,
         PinsRead::Width(w) => judge_channel(&top[..w], &bot[..w], board, out),
+    }
+}
+
+// The pin list of two rows.
+fn put_pin_list(out: &mut [u8], top: &[u32], bot: &[u32]) -> usize
+    requires { ⌜ (length (now top) ≤ rowTray) × (length (now bot) ≤ rowTray) × (65536 ≤ length (now out)) ⌝ }
+    ensures { λ r.
+        ⌜ Put (now (out .entry)) 0 (pinList (rows (now (top .entry)) (now (bot .entry)))) (now (out .exit)) r ⌝ }
+    ensures { λ r. ⌜ r ≤ 65536 ⌝ }
+{
+    let next = report::put_row(out, 0, b"TOP", top);
+    report::put_row(out, next, b"BOT", bot)
+}
+
+// The pin list of two lists that are joined, each of which is accepted alone, or the line of their refusal.
+fn join_channels(top1: &[u32], bot1: &[u32], top2: &[u32], bot2: &[u32], out: &mut [u8]) -> usize
+    requires { ⌜ Escapes (rows (now top1) (now bot1)) × Escapes (rows (now top2) (now bot2))
+        × (65536 ≤ length (now out)) ⌝ }
+    ensures { λ r.
+        ⌜ Put (now (out .entry)) 0
+        (panelLines (rows (now (top1 .entry)) (now (bot1 .entry))) (rows (now (top2 .entry)) (now (bot2 .entry))))
+        (now (out .exit)) r ⌝ }
+    ensures { λ r. ⌜ r ≤ 65536 ⌝ }
+{
+    let mut top = [0u32; ROW_TRAY];
+    let mut bot = [0u32; ROW_TRAY];
+    match panel::join(top1, bot1, top2, bot2, &mut top, &mut bot) {
+        JoinAnswer::Refused(refusal) => put_refusal(out, refusal),
+        JoinAnswer::Width(w) => put_pin_list(out, &top[..w], &bot[..w]),
+    }
+}
+
+// The second list joined to one that is accepted.
+fn join_second(top: &[u32], bot: &[u32], second: &[u8], out: &mut [u8]) -> usize
+    requires { ⌜ Escapes (rows (now top) (now bot)) × (65536 ≤ length (now out)) ⌝ }
+    ensures { λ r.
+        ⌜ Put (now (out .entry)) 0
+        (ofPinList (panelLines (rows (now (top .entry)) (now (bot .entry)))) (now (second .entry)))
+        (now (out .exit)) r ⌝ }
+    ensures { λ r. ⌜ r ≤ 65536 ⌝ }
+{
+    let mut top2 = [0u32; ROW_TRAY];
+    let mut bot2 = [0u32; ROW_TRAY];
+    match read_pins(second, &mut top2, &mut bot2, out) {
+        PinsRead::Refused(size) => size,
+        PinsRead::Width(w) => join_channels(top, bot, &top2[..w], &bot2[..w], out),
+    }
+}
+
+// What the program that joins writes of the two files that it reads.
+pub fn panel_output(first: &[u8], second: &[u8], out: &mut [u8]) -> usize
+    requires { ⌜ 65536 ≤ length (now out) ⌝ }
+    ensures { λ r.
+        ⌜ Put (now (out .entry)) 0 (panelOutput (now (first .entry)) (now (second .entry))) (now (out .exit)) r ⌝ }
+    ensures { λ r. ⌜ Counts r (now (out .exit)) ⌝ }
+{
+    let mut top = [0u32; ROW_TRAY];
+    let mut bot = [0u32; ROW_TRAY];
+    match read_pins(first, &mut top, &mut bot, out) {
+        PinsRead::Refused(size) => size,
+        PinsRead::Width(w) => join_second(&top[..w], &bot[..w], second, out),
     }
 }

@@ -1,15 +1,17 @@
 // The lines that the programs write, put into a lent buffer.
+ghost use mathlib.Core.Path.{_≡_};
 ghost use mathlib.Core.List.{[], _∷_};
 ghost use Prim.Native.Nat.{_+_, _*_, _≤_};
 ghost use lib.ListN.{length, take};
 ghost use Rattle.lists.specs.Lists.{each};
-ghost use Rattle.refusal.specs.Trays.{recordTray};
-ghost use Rattle.text.specs.Lines.{line, Put};
+ghost use Rattle.refusal.specs.Trays.{rowTray, recordTray};
+ghost use Rattle.text.specs.Lines.{line, lineOf, Put};
 ghost use Rattle.refusal.specs.Refusals.{toldAt};
 ghost use Rattle.report.specs.Lines.{refusedLine, noneLine, boardLine, boundLine, netLine, endLine};
 ghost use Rattle.report.specs.Code.{ringText, listingText};
 use leftedge::NetRecord;
 use refusal::RECORD_TRAY;
+use refusal::ROW_TRAY;
 
 // The line of a refusal or fault, at the front of `out`; answers its length.
 pub fn put_refused(out: &mut [u8], number: u64, place: u64) -> usize
@@ -65,6 +67,32 @@ pub fn put_none(out: &mut [u8]) -> usize
 {
     let numbers = [0u64; 0];
     text::put_line(out, 0, b"NONE", &numbers)
+}
+
+// Copies the numbers of a row to the front of a wider one.
+fn widen(row: &[u32], to: &mut [u64])
+    requires { ⌜ length (now row) ≤ length (now to) ⌝ }
+    ensures { λ _. ⌜ take (length (now (row .entry))) (now (to .exit)) ≡ now (row .entry) ⌝ }
+{
+    let mut i: usize = 0;
+    while i < row.len() {
+        to[i] = row[i] as u64;
+        i += 1;
+    }
+}
+
+// A row of a pin list as a line, its word and its numbers, at byte `at`; answers the place behind it.
+pub fn put_row(out: &mut [u8], at: usize, word: &[u8], row: &[u32]) -> usize
+    requires { ⌜ (length (now row) ≤ rowTray)
+        × (at + (length (now word) + (21 * length (now row) + 1)) ≤ length (now out)) ⌝ }
+    ensures { λ r.
+        ⌜ Put (now (out .entry)) at (lineOf (now (word .entry)) (now (row .entry))) (now (out .exit)) r ⌝ }
+    ensures { λ r. ⌜ r ≤ at + (length (now (word .entry)) + (21 * length (now (row .entry)) + 1)) ⌝ }
+{
+    let mut numbers = [0u64; ROW_TRAY];
+    let count = row.len();
+    widen(row, &mut numbers);
+    text::put_line(out, at, word, &numbers[..count])
 }
 
 // The figures of a listing.
