@@ -14,12 +14,19 @@ NET = rb"NET " + rb" ".join([NUMBER] * 4) + rb"\n"
 LISTING = re.compile(
     rb"BOARD " + rb" ".join([NUMBER] * 3) + rb"\nBOUND " + NUMBER + rb" " + NUMBER + rb"\n(?:" + NET + rb")*"
     rb"END " + NUMBER + rb"\n")
+ROW = rb"(?: " + NUMBER + rb")+\n"
+PIN_LIST = re.compile(rb"TOP" + ROW + rb"BOT" + ROW)
 
 Facts = namedtuple("Facts", "width tracks blank density chain pieces")
 Blank = namedtuple("Blank", "tracks")
 Ring = namedtuple("Ring", "pairs")  # of net and column; none where there is no ring
 # word is GOOD or REFUSED; place is the tracks of a good board; ring has pairs of net and column
 Verdict = namedtuple("Verdict", "word number place ring")
+
+
+def line(word, *numbers):
+    """A line as the programs write it."""
+    return " ".join([word, *map(str, numbers)]).encode() + b"\n"
 
 
 def numbers_of(match, *groups):
@@ -66,3 +73,13 @@ def facts_of(output):
     """What a listing says of its board; None for any other output."""
     match = LISTING.fullmatch(output)
     return Facts(*numbers_of(match, 1, 2, 3, 4, 5, match.re.groups)) if match else None
+
+
+def nets_of(listing):
+    """The four numbers of each NET line of a listing."""
+    return [tuple(map(int, words.split()[1:])) for words in listing.splitlines() if words.startswith(b"NET ")]
+
+
+def is_pin_list(output):
+    """Whether an output is a pin list as the programs write one, with one space before each number."""
+    return PIN_LIST.fullmatch(output) is not None

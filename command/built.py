@@ -18,7 +18,7 @@ from command import digest, places, prover
 from command.failure import Failure, reason
 from command.standard import say
 
-PROGRAMS = ("listing", "board_writer", "board_judge", "ring_finder")
+PROGRAMS = ("listing", "board_writer", "board_judge", "ring_finder", "panel_joiner")
 LIBRARY_CRATE = "screen_api"
 
 

@@ -2,7 +2,8 @@
 from command import boardfile, slips
 from command.copper import Copper
 from command.pinlist import SIDES, place_words, rows_of, side_and_column
-from command.refusals import BAD_TABLE, NO_BLANK, NO_STOCK, filled, read_table
+from command.refusals import (BAD_TABLE, NO_BLANK, NO_STOCK, OF_BOARDS, PANEL_FULL, TOO_WIDE, filled,
+                              read_table)
 
 PAIRS_SPELT = 12
 LONGEST_NUMBER = 12
@@ -15,7 +16,7 @@ def meaning_of(verdict):
 
 def is_of_board(verdict, pins):
     """Whether a refusal speaks of the board file, which is looked at only after the pin list."""
-    return verdict.number >= 8 or (verdict.number == 0 and len(pins) <= verdict.place)
+    return verdict.number in OF_BOARDS or (verdict.number == 0 and len(pins) <= verdict.place)
 
 
 def explained(verdict, pins, board=b"", pins_name="the pin list", board_name="the board file"):
@@ -28,6 +29,11 @@ def explained_choice(verdict, entries, table_name):
     """The same of a blank that is refused. There are no entries where a stock blank was asked for."""
     about = "" if verdict.number == NO_BLANK else table_name  # so many tracks are no fault of a table
     return sentences(verdict, about, DETAILS_OF_CHOICE[verdict.number](verdict.place, entries))
+
+
+def explained_panel(verdict, first, second):
+    """The same of a panel that is refused where neither of its two lists is."""
+    return sentences(verdict, "panel", DETAILS_OF_PANEL[verdict.number](verdict.place, first, second))
 
 
 def sentences(verdict, about, more):
@@ -141,3 +147,20 @@ def no_stock(_place, entries):
 
 
 DETAILS_OF_CHOICE = {NO_BLANK: no_blank, BAD_TABLE: bad_table, NO_STOCK: no_stock}
+
+
+def panel_too_wide(_place, first, second):
+    return (f"{first.name} has {columns_words(first.width)}, {second.name} {second.width}, together "
+            f"{first.width + second.width}")
+
+
+def columns_words(count):
+    return "1 column" if count == 1 else f"{count} columns"
+
+
+def panel_full(place, first, second):
+    return (f"it is net {place - first.highest} of {second.name}, raised by {first.highest}, the highest number of "
+            f"{first.name}")
+
+
+DETAILS_OF_PANEL = {TOO_WIDE: panel_too_wide, PANEL_FULL: panel_full}

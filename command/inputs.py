@@ -48,6 +48,6 @@ def status_of(name):
         return None
 
 
-def refuse_standard_twice(pins_name, other_name, other="BOARD"):
+def refuse_standard_twice(pins_name, other_name, other="BOARD", pins="PINS"):
     if pins_name == other_name == STANDARD:
-        raise Failure(f"PINS and {other} cannot both be standard input")
+        raise Failure(f"{pins} and {other} cannot both be standard input")

@@ -2,10 +2,10 @@
 import signal
 import sys
 
-from command import blank, board, judge, listing, make, order, picture, places, ring, standard, told, turn
+from command import blank, board, judge, listing, make, order, panel, picture, places, ring, standard, told, turn
 from command.failure import Failure
 
-COMMANDS = {"make": make, "list": listing, "board": board, "turn": turn, "ring": ring, "judge": judge,
+COMMANDS = {"make": make, "list": listing, "board": board, "turn": turn, "panel": panel, "ring": ring, "judge": judge,
             "picture": picture, "blank": blank, "order": order}
 HELP = """\
 channel: a pin list in; listing, board file, judgement and picture out
@@ -22,8 +22,8 @@ A pin list is two lines, TOP and BOT, each with one net number a column, 0 for n
 
 A number that stands just once parks its pin, which gets no copper; standard error then says so.
 
-Exit status: 0 for a listing, a board, a turned list, a ring or none, a good board or a blank; 1 for a refusal or fault,
-which standard error explains; 2 for wrong use or a step that failed.
+Exit status: 0 for a listing, a board, a turned list, a panel, a ring or none, a good board or a blank; 1 for a refusal
+or fault, which standard error explains; 2 for wrong use or a step that failed.
 """
 
 

@@ -1,4 +1,4 @@
-"""Running the four proved programs. What is no whole answer with status 0 is a failure of that step."""
+"""Running the five proved programs. What is no whole answer with status 0 is a failure of that step."""
 import signal
 import subprocess
 import tempfile
@@ -8,8 +8,11 @@ from command import answers, boardfile, built, places
 from command.failure import Failure, reason
 
 LISTING, WRITER, JUDGE, FINDER = "listing", "board_writer", "board_judge", "ring_finder"
-STEPS = {LISTING: "the listing program", WRITER: "the board writer", JUDGE: "the judge", FINDER: "the ring finder"}
+JOINER = "panel_joiner"
+STEPS = {LISTING: "the listing program", WRITER: "the board writer", JUDGE: "the judge", FINDER: "the ring finder",
+         JOINER: "the panel joiner"}
 FOR_BOARDS = (LISTING, WRITER, JUDGE)
+FOR_PICTURES = (*FOR_BOARDS, FINDER)
 
 
 def ended(status):
@@ -58,19 +61,25 @@ def board(pins):
     return output, refusal
 
 
-def judge(pins, board_bytes):
-    """The judge's output and what it means. The bytes that it was given are looked at again afterwards."""
-    files = {"pins": pins, "board": board_bytes}
+def run_on_files(program, files):
+    """What a proved program writes of the files that it is given, by name. Their bytes are looked at again
+    afterwards."""
     try:
         with tempfile.TemporaryDirectory(prefix="channel-") as folder:
             for name, data in files.items():
                 Path(folder, name).write_bytes(data)
-            output = run(JUDGE, folder=folder)
+            output = run(program, folder=folder)
             same = all(Path(folder, name).read_bytes() == data for name, data in files.items())
     except OSError as error:
-        raise Failure(f"the files for the judge could not be written: {reason(error)}") from error
+        raise Failure(f"the files for {STEPS[program]} could not be written: {reason(error)}") from error
     if not same:
-        raise Failure("the files for the judge are not those that were written")
+        raise Failure(f"the files for {STEPS[program]} are not those that were written")
+    return output
+
+
+def judge(pins, board_bytes):
+    """The judge's output and what it means."""
+    output = run_on_files(JUDGE, {"pins": pins, "board": board_bytes})
     verdict = answers.verdict_of(output)
     if verdict is None:
         raise Failure(f"{STEPS[JUDGE]} failed: its output is neither GOOD nor a refusal ({shown(output)})")

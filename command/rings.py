@@ -3,9 +3,8 @@ none that this pin list can have, is a failure of that step."""
 from command import answers, inputs, programs
 from command.explain import ring_words
 from command.failure import Failure
-from command.pinlist import rows_of
+from command.possible import HIGHEST_NET, MOST_COLUMNS, refuses_text, rows_known
 
-MOST_COLUMNS, HIGHEST_NET = 512, 511
 SAME = ", the same ring"
 
 
@@ -37,32 +36,10 @@ def fail(words):
 
 def possible(answer, pins):
     """Whether an answer can be one of this pin list. That no ring has fewer nets, or that there is none, is not asked
-    again."""
+    again; a tangled list is not refused."""
     if isinstance(answer, answers.Ring):
         return len(pins) <= inputs.MOST and is_ring(answer.pairs, *rows_known(pins))
-    if answer.number == 0 or len(pins) > inputs.MOST:
-        return (answer.number, answer.place) == (0, inputs.MOST) and len(pins) > inputs.MOST
-    if answer.number == 2:
-        return answer.place <= len(pins)
-    return refuses_rows(answer, *map(len, rows_known(pins)))
-
-
-def rows_known(pins):
-    """The two rows of a text; a text that has no two lines of ASCII has none."""
-    try:
-        top, bot = rows_of(pins)
-    except ValueError:
-        return (), ()
-    return top, bot
-
-
-def refuses_rows(refusal, top, bot):
-    """Whether a refusal is one of 3 to 5 and can be of rows of these lengths. A tangled list is not refused."""
-    if refusal.number == 3:
-        return refusal.place == MOST_COLUMNS + 1 and max(top, bot) > MOST_COLUMNS
-    if refusal.number == 4:
-        return refusal.place == min(top, bot) + 1 and top != bot
-    return refusal.number == 5 and top == bot and 1 <= refusal.place <= top + bot
+    return refuses_text(answer, pins)
 
 
 def is_ring(pairs, top, bot):

@@ -4,10 +4,10 @@ from command import answers, inputs
 from command.explain import explained, explained_choice, is_of_board
 from command.parked import parked_words
 from command.pinlist import rows_of
+from command.refusals import TANGLED
 from command.standard import say
 
 GOOD, REFUSED, FAILED = 0, 1, 2
-TANGLED = 7
 
 
 def status(answer, pins, board=b"", pins_name="", board_name="the board file"):

@@ -5,7 +5,7 @@ A frame without tracks has its two pin rows one tall step apart.
 import textwrap
 
 from command.parked import parked_of, parked_words
-from picture.legend import draw_legend
+from picture.legend import draw_legend, draw_second
 from picture.svg import Sheet, dashes, digits_wide
 
 NARROWEST = 640  # the width of a sheet at which legend and caption still read well
@@ -30,8 +30,8 @@ def labelled(net):
 
 
 class Frame:
-    def __init__(self, rows, tracks, column_step=None, track_step=None):
-        self.rows, self.tracks, self.sheet = rows, tracks, Sheet()
+    def __init__(self, rows, tracks, second=None, column_step=None, track_step=None):
+        self.rows, self.tracks, self.second, self.sheet = rows, tracks, second, Sheet()
         self.columns = max(map(len, rows))
         self.dx = column_step or step(COLUMN_STEPS, self.columns, 9)
         self.unit = max(1.0, self.columns * self.dx / 1100)  # texts grow with the sheet, which may be shown small
@@ -86,6 +86,8 @@ class Frame:
             for t in thinned(self.tracks, self.dy, 14 * u):
                 sheet.text(self.left - 8 * u, self.y(t) + 4 * u, str(t), class_="track-number", text_anchor="end")
         self._draw_sides()
+        if self.second is not None:
+            self._draw_second()
 
     def _draw_sides(self):
         u, edge = self.unit, self.left - 32 * self.unit
@@ -96,6 +98,12 @@ class Frame:
             if self.tracks:
                 middle = self.y((self.tracks + 1) / 2)
                 self.sheet.turned(edge, middle, "track", class_="side", text_anchor="middle")
+
+    def _draw_second(self):
+        """A line before the first column of a panel's second list, from the TOP labels to the BOT labels."""
+        (high, low), x = self._labels_end(), self.left + (self.second - 1) * self.dx
+        with self.sheet.group("panel"):
+            draw_second(self.sheet, x, high, low, self.unit, min(2 * self.unit, 0.4 * self.dx))
 
     def draw_pins(self):
         """A square for each pin with its net outside the board, a pale 0 where there is none."""
@@ -164,7 +172,8 @@ class Frame:
     def finish(self, title, kinds, sentences):
         """Legend and caption; answers the whole file."""
         below = self._labels_end()[1] + 24 * self.unit
-        below = draw_legend(self.sheet, kinds, self.width, below, self.unit)
+        kinds = [*kinds, *(() if self.second is None else ("second",))]
+        below = draw_legend(self.sheet, kinds, self.width, below, self.unit, self.second)
         return finished(self.sheet, self.width, below, self.unit, title, sentences)
 
 

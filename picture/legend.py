@@ -17,20 +17,22 @@ WORDS = {
     "same": "the same net again",
     "fewest": "column of the ring with the fewest nets",
     "fewest-same": "the same net again in that ring",
+    "second": "the second list begins in column {}",
 }
 SAMPLE = 26
 
 
-def draw_legend(sheet, kinds, width, y, unit):
-    """Answers where the next thing below may stand."""
+def draw_legend(sheet, kinds, width, y, unit, second=None):
+    """Answers where the next thing below may stand. The second is the column that the words of that kind name."""
     size, x, margin = 12 * unit, 24 * unit, 24 * unit
     with sheet.group("legend", font_size=size, stroke_width=4 * unit):
         for kind in kinds:
-            room = (SAMPLE + 8) * unit + words_wide(WORDS[kind], size) + 14 * unit
+            words = WORDS[kind].format(second)
+            room = (SAMPLE + 8) * unit + words_wide(words, size) + 14 * unit
             if x > margin and x + room > width - margin:
                 x, y = margin, y + 22 * unit
             draw_sample(sheet, kind, x, y, unit)
-            sheet.text(x + (SAMPLE + 8) * unit, y + 4 * unit, WORDS[kind])
+            sheet.text(x + (SAMPLE + 8) * unit, y + 4 * unit, words)
             x += room
     return y + 32 * unit
 
@@ -69,6 +71,15 @@ def draw_sample(sheet, kind, x, y, u):
         sheet.add("rect", class_="fewest-pin", x=middle - 5 * u, y=y - 3 * u, width=10 * u, height=10 * u)
     if kind == "fewest-same":
         sheet.add("line", class_="fewest-same", x1=x, y1=y, x2=end, y2=y, stroke_width=2.2 * u)
+    if kind == "second":
+        draw_second(sheet, middle, y - 9 * u, y + 9 * u, u, 2 * u)
+
+
+def draw_second(sheet, x, high, low, unit, wide):
+    """A dashed line straight down, before the first column of a panel's second list. It has its colour with it, so that
+    the style of other pictures need not name it."""
+    sheet.add("line", class_="second", stroke="#1d2733", x1=x, y1=high, x2=x, y2=low, stroke_width=wide,
+              stroke_dasharray=dashes(unit))
 
 
 def draw_arrow(sheet, x, high, low, unit, of=""):

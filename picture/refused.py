@@ -13,8 +13,8 @@ OF_FEWEST = "fewest-"  # what the classes of shapes of the ring with the fewest 
 # A tangled list: a ring runs down each of its columns, and from there along a net to the next. The router's walk shows
 # one; the ring with the fewest nets is drawn beside it where it is another.
 
-def draw_rings(rows, verdict, fewest, words):
-    frame = Frame(rows, 0, column_step=84 if len(rows[0]) <= 10 else None, track_step=190)
+def draw_rings(rows, verdict, fewest, words, second=None):
+    frame = Frame(rows, 0, second, column_step=84 if len(rows[0]) <= 10 else None, track_step=190)
     title = f"width {frame.columns} · tangled: a ring of {verdict.place} nets"
     other = () if is_same(fewest, verdict.ring) else fewest.pairs
     walk = {column for _, column in verdict.ring}
@@ -98,10 +98,10 @@ def spelt(ring):
 
 # Rows that were made out but are refused.
 
-def draw_rows(rows, verdict, words):
+def draw_rows(rows, verdict, words, second=None):
     """Rows far too wide are shown a little beyond the widest."""
     shown = tuple(row[:WIDEST + 4] for row in rows)
-    frame = Frame(shown, 0, track_step=110)
+    frame = Frame(shown, 0, second, track_step=110)
     title = f"columns: TOP {len(rows[0])}, BOT {len(rows[1])}"
     frame.draw_title(title, status_of(verdict), False)
     frame.draw_grid()

@@ -85,10 +85,10 @@ def mark_piece(frame, verdict, pieces):
     return ["piece"], f"Piece {verdict.place} of the file: {described(piece)}."
 
 
-def draw_board(rows, board_bytes, facts, verdict, words):
+def draw_board(rows, board_bytes, facts, verdict, words, second=None):
     """A board that the judge called good, or in which it found a short, an open or floating copper."""
     board = board_of(board_bytes)
-    frame, title = Frame(rows, board.tracks), title_of(board, facts)
+    frame, title = Frame(rows, board.tracks, second), title_of(board, facts)
     frame.draw_title(title, status_of(verdict), verdict.word == "GOOD")
     frame.draw_grid()
     if verdict.number in (11, 12):
@@ -105,9 +105,9 @@ def draw_board(rows, board_bytes, facts, verdict, words):
     return frame.finish(title, COPPER + parked + marks, sentences + of_parked)
 
 
-def draw_pins_only(rows, board_bytes, verdict, words):
+def draw_pins_only(rows, board_bytes, verdict, words, second=None):
     """A board file that does not open, or that is for another width: there is no copper to show."""
-    frame = Frame(rows, 0, track_step=110)
+    frame = Frame(rows, 0, second, track_step=110)
     title = f"width {frame.columns} · no board"
     frame.draw_title(title, status_of(verdict), False)
     frame.draw_grid()

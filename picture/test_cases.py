@@ -83,6 +83,11 @@ REFUSED_BOARDS = {  # file, words
     "bad piece": (channel.encode(4, 2, [(0, 1, 1, 2), (1, 2, 0, 9)]), "branch, column 2, rows 0 to 9"),
     "wrong board": (channel.encode(5, 2, []), "REFUSED 10 5: wrong board"),
     "long board": (bytes(65537), "REFUSED 0 65536")}
+SECOND = {  # the run that is drawn with a line before a column, and that column
+    "A": 3, "B": 7, "512 columns": 257, "M, 512 columns": 512, "401 tracks": 2, "parked, opposite a net": 2, "H": 4,
+    "J": 2, "taller": 3, "split": 3, "ring D": 3, "ring 511 columns": 2, "ring cut short": 5, "torn": 2,
+    "wrong board": 4, "M, 513 columns": 512, "far too wide": 100, "uneven": 3, "5,000 digits": 2}
+NO_COLUMNS = ("K", "empty", "too long")  # texts of which no column is drawn, so that the option changes nothing
 
 
 # Runs whose pin list is padded too; it has the same picture.
@@ -116,7 +121,8 @@ def to_parked():
 
 
 def runs():
-    """The faulty files; and for the name of each run its pin list, board file if any, standard input if any."""
+    """The faulty files; and for the name of each run its pin list, board file if any, standard input if any, and the
+    column of --second if any."""
     files = faulty()
     table = {name: (pins,) for name, pins in (*GOOD.items(), *((f"ring {n}", p) for n, p in RINGS.items()))}
     table.update({name: (A, file) for name, file in files.items()})
@@ -128,4 +134,6 @@ def runs():
     table.update({f"{name}, padded": (in_columns(table[name][0]), *table[name][1:]) for name in PADDED})
     table["split"] = (D, channel.encode(4, 4, SPLIT))
     table["standard input"] = (b"", None, B)
+    table.update({f"{name}, second": ((*table[name], None)[:2] + (None, column))
+                  for name, column in (*SECOND.items(), *((text, 2) for text in NO_COLUMNS))})
     return files, table

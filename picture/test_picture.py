@@ -5,61 +5,18 @@ Usage: python3 picture/test_picture.py
 Every place is mapped back from the sheet to column and row by the board's rectangle alone, and compared with the pieces
 that the independent program of reference/ decodes from the same board file.
 """
-import os
-import subprocess
 import sys
 import tempfile
 from collections import Counter
 from concurrent.futures import ThreadPoolExecutor
 from pathlib import Path
-from xml.etree.ElementTree import ParseError
 
 sys.dont_write_bytecode = True
-from read_back import SVG, Sheet  # noqa: E402  (no compiled copies are to be left in the tree)
+from read_back import SVG  # noqa: E402  (no compiled copies are to be left in the tree)
 from test_cases import (A, D, GOOD, OPPOSITE, PADDED, REFUSED_BOARDS, REFUSED_ROWS, REFUSED_TEXTS, RINGS,  # noqa: E402
                         channel, runs)
-
-ROOT = Path(__file__).resolve().parent.parent
-LARGEST = 2_000_000
-passed, failures = 0, []
-
-
-def check(name, held):
-    global passed
-    passed += bool(held)
-    if not held:
-        failures.append(name)
-
-
-def picture(folder, pins, board=None, stdin=None):
-    """Exit status, output and words on standard error; the programs' Python is the one that runs this."""
-    place = Path(tempfile.mkdtemp(dir=folder))
-    arguments = ["-" if stdin is not None else place / "pins"]
-    (place / "pins").write_bytes(pins)
-    if board is not None:
-        (place / "board").write_bytes(board)
-        arguments.append(place / "board")
-    return run(*arguments, stdin=stdin)
-
-
-def answered(program, pins):
-    """What a proved program writes of a pin list."""
-    return subprocess.run([ROOT / "target" / "bin" / program], input=pins, stdout=subprocess.PIPE, check=True).stdout
-
-
-def run(*arguments, stdin=b""):
-    environment = dict(os.environ, PATH=f"{Path(sys.executable).parent}{os.pathsep}{os.environ['PATH']}")
-    done = subprocess.run([ROOT / "channel", "picture", *arguments], input=stdin, stdout=subprocess.PIPE,
-                          stderr=subprocess.PIPE, env=environment, check=False)
-    return done.returncode, done.stdout, done.stderr
-
-
-def sheet_of(name, answer, tracks=0):
-    check(f"{name}: size", len(answer[1]) < LARGEST)
-    try:
-        return Sheet(answer[1], tracks)
-    except ParseError as error:
-        sys.exit(f"pictures: {name} is no XML: {error}; standard error says {answer[2].decode(errors='replace')!r}")
+from test_runs import ROOT, answered, check, failures, held, picture, run, sheet_of  # noqa: E402
+from test_second import check_second, check_wrong_columns  # noqa: E402
 
 
 def check_copper(name, sheet, pieces):
@@ -275,7 +232,8 @@ def check_wrong_use(folder):
     pins = Path(folder, "A")
     pins.write_bytes(A)
     wrong = {"no file": (), "three files": (pins, pins, pins), "no such file": (folder + "/none",),
-             "a folder": (folder,), "no such board": (pins, folder + "/none"), "twice standard input": ("-", "-")}
+             "a folder": (folder,), "no such board": (pins, folder + "/none"), "twice standard input": ("-", "-"),
+             "no column": (pins, "--second"), "a column twice": (pins, "--second=2", "--second=2")}
     for name, arguments in wrong.items():
         status, output, words = run(*arguments)
         check(f"{name}: refused", status == 2 and output == b"" and words.count(b"\n") == 1)
@@ -286,6 +244,7 @@ def main():
     with tempfile.TemporaryDirectory() as folder, ThreadPoolExecutor(4) as pool:
         answers = dict(zip(table, pool.map(lambda case: picture(folder, *case), table.values())))
         check_wrong_use(folder)
+        check_wrong_columns(Path(folder))
     for name, pins in GOOD.items():
         check_routed(name, answers[name], pins)
     for name, pins in RINGS.items():
@@ -297,6 +256,7 @@ def main():
         check_text(name, answers[name], *due)
     check_boards_refused(answers)
     check_at_parked_pins(answers, table)
+    check_second(answers, table)
     split = check_board("split", answers["split"], D, table["split"][1])
     check("split: title", "tracks 4 · tangled list" in split.words())
     taller = check_board("taller", answers["taller"], A, table["taller"][1])
@@ -309,7 +269,7 @@ def main():
         check(f"docs/{name}.svg", (ROOT / "docs" / f"{name}.svg").read_bytes() == answers[example][1])
     for failure in failures:
         print(f"pictures: failed: {failure}")
-    print(f"pictures: {passed} checks passed" + (f", {len(failures)} failed" if failures else ""))
+    print(f"pictures: {len(held)} checks passed" + (f", {len(failures)} failed" if failures else ""))
     return bool(failures)
 
 

@@ -23,7 +23,8 @@ for name; do
     fi
 done
 """
-CRATES = "lists:\nother: lists\nlisting: lists io\nboard_writer: lists\nboard_judge: lists other\nring_finder: lists\n"
+CRATES = ("lists:\nother: lists\nlisting: lists io\nboard_writer: lists\nboard_judge: lists other\nring_finder: lists\n"
+          "panel_joiner: lists\n")
 
 
 class Sources(Workshop):

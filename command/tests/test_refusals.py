@@ -6,7 +6,7 @@ import unittest
 from pathlib import Path
 
 from command import answers, refusals
-from command.explain import meaning_of
+from command.explain import is_of_board, meaning_of
 from command.tests.workshop import ROOT
 from picture.scenes import status_of
 
@@ -27,7 +27,7 @@ class Table(unittest.TestCase):
         self.table = refusals.read_table()
 
     def test_numbers_and_words(self):
-        self.assertEqual(list(self.table), [0, 1, 2, 3, 4, 5, *range(7, 17)])
+        self.assertEqual(list(self.table), [0, 1, 2, 3, 4, 5, *range(7, 17), 18])
         self.assertEqual(len({refusal.word for refusal in self.table.values()}), len(self.table))
 
     def test_the_header_for_c_programs(self):
@@ -55,20 +55,29 @@ class Table(unittest.TestCase):
             self.assertEqual(status_of(verdict), f"REFUSED {number} 5: {refusal.word}")
             self.assertNotIn("%p", meaning_of(verdict))
 
-    def test_no_answer_has_the_number_that_is_not_used(self):
-        for number in range(18):
+    def test_no_answer_has_a_number_that_is_not_used(self):
+        for number in range(30):
             ring = b"RING 1 1\n" if number == 7 else b""
             taken = answers.refusal_of(b"REFUSED %d 1\n" % number + ring)
             self.assertEqual(taken is not None, number in self.table, number)
+
+    def test_which_are_of_a_board_file(self):
+        pins = b"TOP 1 1\nBOT 0 0\n"
+        for number in range(1, 30):
+            self.assertEqual(is_of_board(answers.Verdict("REFUSED", number, 5, ()), pins), 8 <= number <= 13)
+        for place, long in ((65536, True), (5, False)):
+            self.assertEqual(is_of_board(answers.Verdict("REFUSED", 0, place, ()), pins), long)
 
     def test_a_table_of_another_form(self):
         lines = refusals.TABLE.read_text().splitlines(keepends=True)
         before, seven, after = lines[:7], lines[7], lines[8:]
         wrong = {
             "empty": [], "heading alone": lines[:1], "no heading": lines[1:], "cut": lines[:-1],
-            "more": [*lines, "17\ta\tb\tc\n"], "a number left out": before + after,
-            "the number that is not used": [*before, "6\ta\tb\tc\n", seven, *after],
+            "more": [*lines, "19\ta\tb\tc\n"], "a number left out": before + after,
+            "a number that is not used": [*before, "6\ta\tb\tc\n", seven, *after],
             "that number for another": [*before, "6\ta\tb\tc\n", *after],
+            "the other": [*lines[:-1], "17\ta\tb\tc\n", lines[-1]],
+            "the other for the last": [*lines[:-1], "17\ta\tb\tc\n"],
             "two exchanged": [*before, after[0], seven, *after[1:]],
             "a text less": [*before, "7\ta\tb\n", *after], "an empty text": [*before, "7\ta\t\tc\n", *after],
         }

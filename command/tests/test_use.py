@@ -4,7 +4,7 @@ import subprocess
 
 from command.tests.workshop import A, LISTED, ROOT, TANGLED, Workshop
 
-COMMANDS = ("make", "list", "board", "turn", "ring", "judge", "picture", "blank", "order")
+COMMANDS = ("make", "list", "board", "turn", "panel", "ring", "judge", "picture", "blank", "order")
 
 
 class Help(Workshop):
@@ -37,7 +37,11 @@ class WrongUse(Workshop):
                       ("list", "none"), ("list", "."), ("judge", "pins", "none"), ("order", "a", "b"),
                       ("--version", "x"), ("list", "-pins"), ("blank",), ("blank", "x"), ("blank", "5", "pins"),
                       ("list", "pins", "--laminate", "pins"), ("make", "pins", "new", "--laminate"),
-                      ("ring",), ("ring", "pins", "pins"), ("ring", "none"), ("ring", "--none", "pins")):
+                      ("ring",), ("ring", "pins", "pins"), ("ring", "none"), ("ring", "--none", "pins"),
+                      ("panel",), ("panel", "pins"), ("panel", "pins", "none"), ("panel", "-", "-"),
+                      ("panel", "pins", "pins", "pins"), ("panel", "--second=5", "pins", "pins"),
+                      ("picture", "pins", "--second"), ("picture", "pins", "--second=5"),
+                      ("picture", "pins", "--second=2", "--second=2"), ("list", "pins", "--second=2")):
             with self.subTest(words):
                 done = self.run_channel(*words)
                 self.assertEqual((done.status, done.output), (2, b""))
@@ -47,7 +51,9 @@ class WrongUse(Workshop):
         self.assertIn("cannot read none: No such file or directory", self.run_channel("list", "none").words)
         self.assertIn("cannot read .: Is a directory", self.run_channel("list", ".").words)
         self.assertIn("list has no option --none", self.run_channel("list", "--none", "pins").words)
-        self.assertIn("both be standard input", self.run_channel("judge", "-", "-").words)
+        self.assertIn("PINS and BOARD cannot both be standard input", self.run_channel("judge", "-", "-").words)
+        self.assertIn("PINS1 and PINS2 cannot both be standard input", self.run_channel("panel", "-", "-").words)
+        self.assertIn("--second needs a COLUMN; usage: ", self.run_channel("picture", "pins", "--second").words)
 
     def test_dashes(self):
         self.put("-odd", A)
@@ -80,18 +86,21 @@ class FullOutput(Workshop):
                       ("list", "tangled"), ("make", "tangled", "new"), ("make", "pins", "-"), ("turn", "pins"),
                       ("turn", "tangled"), ("turn", "empty"), ("blank", "5"), ("blank", "513"), ("blank", "5", "empty"),
                       ("make", "pins", "new", "--laminate", "empty"), ("ring", "pins"), ("ring", "tangled"),
-                      ("ring", "empty"), ("picture", "tangled"), ("--help",), ("--version",)):
+                      ("ring", "empty"), ("picture", "tangled"), ("picture", "pins", "--second=2"),
+                      ("panel", "pins", "pins"), ("panel", "pins", "tangled"), ("panel", "pins", "empty"), ("--help",),
+                      ("--version",)):
             self.full(*words)
         self.assertNotIn("new", self.files())
 
     def test_closed(self):
-        for words in (("list", "pins"), ("board", "pins"), ("turn", "pins"), ("ring", "pins"), ("blank", "5")):
+        for words in (("list", "pins"), ("board", "pins"), ("turn", "pins"), ("panel", "pins", "pins"),
+                      ("ring", "pins"), ("blank", "5")):
             done = self.run_channel(*words, preexec_fn=lambda: os.close(1))
             self.assertEqual(done.status, 2, words)
             self.assertIn("cannot write standard output: it is closed", done.words)
 
     def test_a_reader_that_has_gone(self):
-        for words in (("list", "pins"), ("turn", "pins"), ("ring", "pins"), ("blank", "5")):
+        for words in (("list", "pins"), ("turn", "pins"), ("panel", "pins", "pins"), ("ring", "pins"), ("blank", "5")):
             with subprocess.Popen(["true"], stdin=subprocess.PIPE) as gone:
                 gone.wait()
                 done = self.run_channel(*words, stdout=gone.stdin)
@@ -110,3 +119,5 @@ class FullOutput(Workshop):
             self.assertEqual((done.status, done.output), (1, b"REFUSED 14 513\n"))
             done = self.run_channel("ring", "tangled", stderr=full)
             self.assertEqual((done.status, done.output), (0, b"RING 1 1\nRING 2 2\n"))
+            done = self.run_channel("panel", "tangled", "tangled", stderr=full)
+            self.assertEqual((done.status, done.output), (0, b"TOP 1 2 3 4\nBOT 2 1 4 3\n"))

@@ -8,7 +8,7 @@ import unittest
 from pathlib import Path
 
 ROOT = Path(__file__).resolve().parent.parent.parent
-PROGRAMS = ("listing", "board_writer", "board_judge", "ring_finder")
+PROGRAMS = ("listing", "board_writer", "board_judge", "ring_finder", "panel_joiner")
 CHOOSER = ROOT / "target" / "choose"
 A = b"TOP 0 1 2 3\nBOT 1 2 0 3\n"
 LISTED = b"BOARD 4 2 8\nBOUND 2 2\nNET 1 1 2 2\nNET 2 2 3 1\nNET 3 4 4 0\nEND 11\n"
