@@ -8,7 +8,7 @@
  *
  * No entry asks anything of its buffers: one that is too short is refused (number 1, the length needed). A pointer may
  * be NULL where its length is 0. A refusal changes nothing that was lent, except scratch and, under 7, the front of the
- * ring. Buffers must not overlap.
+ * ring. A buffer that is written must not overlap another; those that are only read may be the same.
  *
  * A pin list is a text of two lines, first TOP, then BOT: the word, then one number or more, each behind one space or
  * more, then a line feed, or a carriage return and a line feed. A number is 0 or has no leading zero; nothing follows.

@@ -23,7 +23,7 @@ joined ch dh =
     rows (ch .top ++ lift (dh .top)) (ch .bot ++ lift (dh .bot))
 
 -- two lists that fit on a panel: each escapes refusals 3 to 5 alone, their columns are at most 512, and no raised number
--- exceeds 511. The last says it of the highest; see `raised-low`
+-- exceeds 511. The last is said of the highest raised one: by `none-over` and `low-sum` it is the same
 pub record Fits (ch dh : Channel) : Type 0 where
   pub first : Escapes ch
   pub second : Escapes dh
