@@ -223,8 +223,8 @@ def entry_fault(told, question, rows):
 
 
 def entry_differences(questions, program=batch.PROGRAM):
-    """Each answer of the entry that is not that of channel.py, with the sentence that it breaks, and the lists; and what
-    the entries for bounds and routing tell otherwise of joined lists."""
+    """Each answer of the entry that is not that of channel.py, with the sentence that it breaks, and the lists; and
+    what the entries for bounds and routing tell otherwise of joined lists."""
     answers = list(joins(questions, program))
     told = Told([rows for (first, second, _), (_, answer) in zip(questions, answers)
                  for rows in (first, second, *([answer[2]] if answer and answer[0] == 0 else []))], program)

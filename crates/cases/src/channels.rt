@@ -165,8 +165,8 @@ fn put_judged(top: &[u32], bot: &[u32], board: &[u8]) {
     }
 }
 
-// Asks the question of a kind about two rows, which for 9 are a table of blanks and tracks; `beside` is the board for the
-// judge, and the second list for the panel.
+// Asks the question of a kind about two rows, which for 9 are a table of blanks and tracks; `beside` is the board for
+// the judge, and the second list for the panel.
 fn ask(kind: u8, top: &[u32], bot: &[u32], beside: &[u8]) {
     match kind {
         4 => put_check(top, bot),
@@ -259,8 +259,8 @@ pub fn answer_fewest(bytes: &[u8]) -> bool
     ask_sized(10, bytes, b"")
 }
 
-// Asks the question of a kind where the length of the rows' bytes stands in front in two bytes, and behind the rows what
-// goes with them.
+// Asks the question of a kind where the length of the rows' bytes stands in front in two bytes, and behind the rows
+// what goes with them.
 fn ask_beside(kind: u8, bytes: &[u8]) -> bool
     ensures { λ r. ⌜ r ≡ besideWhole (now (bytes .entry)) ⌝ }
 {

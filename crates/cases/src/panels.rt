@@ -51,8 +51,8 @@ fn join_rows(
     put_panel(top1, bot1, &top2[..a], &bot2[..b]);
 }
 
-// Joins a list of two rows and the list in `bytes`, which has the form of a case's rows; of rows that are cut, or longer
-// than there is room for, just the numbers count that are there and have room.
+// Joins a list of two rows and the list in `bytes`, which has the form of a case's rows; of rows that are cut, or
+// longer than there is room for, just the numbers count that are there and have room.
 pub fn put_joined(top1: &[u32], bot1: &[u32], bytes: &[u8]) {
     let mut top2 = [0u32; ROW_ROOM];
     let mut bot2 = [0u32; ROW_ROOM];

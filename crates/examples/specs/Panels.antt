@@ -3,7 +3,6 @@ use Prim.Native.Nat.{ℕ}
 use mathlib.Core.Path.{_≡_, refl}
 use mathlib.Core.List.{List, [], _∷_, _++_, map}
 use mathlib.Core.Bool.{true}
-use lib.ListN.{length}
 use Rattle.lists.specs.Lists.{keep, each, anyOf, allOf, from, headOr, lastOr, greatest, least, at}
 use Rattle.refusal.specs.Refusals.{refuseIf, refuseAtFirst, _or-else_, answered, filledUnless}
 use Rattle.refusal.specs.Trays.{shortTray}

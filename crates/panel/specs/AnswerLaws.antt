@@ -2,12 +2,11 @@
 use Prim.Native.Nat.{ℕ, suc, _+_, _-_, _≤_, _<_}
 use native.Mathlib.Omega.{arith}
 use native.Mathlib.Decide.{decLe}
-use mathlib.Core.Path.{_≡_, refl, sym, _∙_, ap, ap₂, subst, subst⁻¹}
+use mathlib.Core.Path.{_≡_, refl, sym, _∙_, ap, ap₂, subst}
 use mathlib.Core.List.{List, [], _∷_, _++_, map, List·Memᴰ}
 use mathlib.Core.Logic.{_↔_, _⊎_, inl, inr, ⊎-elim}
-use mathlib.Core.Bool.{true, false}
 use mathlib.Core.Option.{Option, none, some}
-use lib.ListN.{length, take, length-append, length-map}
+use lib.ListN.{length, take}
 use lib.Dec.{T, ltb, ltb→lt, lt→ltb}
 use borrow.Author.Tests.{lt-ltb, le-ltb}
 use Rattle.lists.specs.Lists.{keep, least, overlay, Lowest}
@@ -51,7 +50,8 @@ rows-short a b h = go (decLe rowTray a)
   where
     go : Dec (rowTray ≤ a) → shortTray (trays a b) ≡ some (ShortTray rowTray)
     go (yes l) =
-        let k : b < rowTray = ⊎-elim (λ s. absurd (omega arith)) (λ s. s) h in rw (le-ltb a rowTray l, lt-ltb b rowTray k)
+        let k : b < rowTray = ⊎-elim (λ s. absurd (omega arith)) (λ s. s) h in
+        rw (le-ltb a rowTray l, lt-ltb b rowTray k)
     go (no l) = let k : a < rowTray = omega arith in rw (lt-ltb a rowTray k)
 
 -- an answer is a width exactly where nothing is refused
@@ -221,8 +221,10 @@ module _ (ch dh : Channel) (top bot : List ℕ) where
           let s = or-else-none (shortTray (trays (length top) (length bot))) _ e .0 in
           let lacks : ((length top < rowTray) ⊎ (length bot < rowTray) → ⊥) =
           λ h. let q = rows-short (length top) (length bot) h in let z : _≡_ {A = ℕ} 0 1 = cc in omega arith in
-          let a : rowTray ≤ length top = elim (decLe rowTray (length top)) [ yes h ↦ h | no h ↦ absurd (lacks (inl (omega arith))) ] in
-          let b : rowTray ≤ length bot = elim (decLe rowTray (length bot)) [ yes h ↦ h | no h ↦ absurd (lacks (inr (omega arith))) ] in
+          let a : rowTray ≤ length top =
+          elim (decLe rowTray (length top)) [ yes h ↦ h | no h ↦ absurd (lacks (inl (omega arith))) ] in
+          let b : rowTray ≤ length bot =
+          elim (decLe rowTray (length bot)) [ yes h ↦ h | no h ↦ absurd (lacks (inr (omega arith))) ] in
           (a, b))
 
       there : refusal ≡ none → LongRows top bot × Fits ch dh

@@ -1,11 +1,11 @@
 -- The density of a panel is the larger of both: no span of one list holds a column of the other.
 use Prim.Native.Nat.{ℕ, max, _+_, _≤_, _<_}
 use native.Mathlib.Omega.{arith}
-use mathlib.Core.Path.{_≡_, refl, sym, _∙_, ap, ap₂}
+use mathlib.Core.Path.{_≡_, sym, _∙_, ap, ap₂}
 use mathlib.Core.List.{List, _++_, map, map-append, List·Memᴰ, Memᴰ·of-map}
-use lib.ListN.{length, length-map}
+use lib.ListN.{length}
 use lib.Dec.{leb, leb→le, le→leb}
-use Rattle.lists.specs.Lists.{keep, upTo, greatest, within}
+use Rattle.lists.specs.Lists.{upTo, greatest, within}
 use Rattle.lists.specs.Tests.{same-test, within→}
 use Rattle.lists.specs.Members.{upTo-member}
 use Rattle.lists.specs.Parts.{upTo-two, map-two, greatest-append}

@@ -1,16 +1,15 @@
--- The nets of a panel are two halves, the second of which always fits after the first: its columns follow. So where each
--- list alone is filled, the panel is, with each net on the track that it has alone.
-use Prim.Native.Nat.{ℕ, _+_, _≤_, _<_}
+-- The nets of a panel are two halves, the second of which always fits after the first: its columns follow. So where
+-- each list alone is filled, the panel is, with each net on the track that it has alone.
+use Prim.Native.Nat.{ℕ, _+_}
 use native.Mathlib.Omega.{arith}
 use mathlib.Core.Path.{_≡_, refl, sym, _∙_, ap, ap₂}
 use mathlib.Core.List.{List, [], _∷_, _++_, map, List·Memᴰ}
 use lib.ListN.{length}
 use lib.Dec.{T, ltb, lt→ltb}
-use Rattle.channel.specs.Channel.{Channel, width, isNet, firstColumn, lastColumn, spanning}
+use Rattle.channel.specs.Channel.{Channel, width, isNet, firstColumn, lastColumn}
 use Rattle.channel.specs.Constraints.{below}
 use Rattle.channel.specs.Laws.{columns-inside, net-positive}
 use Rattle.channel.specs.SpanLaws.{spanning→}
-use Rattle.leftedge.specs.Items.{Items}
 use Rattle.leftedge.specs.Nets.{netItems}
 use Rattle.leftedge.specs.HalfLaws.{PartOf, Halves}
 use Rattle.leftedge.specs.NetLaws.{order→spanning, starts-inside}
@@ -56,7 +55,8 @@ module _ {ch dh : Channel} (fit : Fits ch dh) where
       record {
         apart = raised-apart (highest ch);
         fits = λ m n hm hn.
-            ap₂ ltb (last-second ch dh even₁ m (net-of dh m hm) even₂) (first-second ch dh even₁ n (net-of dh n hn) even₂)
+            ap₂ ltb (last-second ch dh even₁ m (net-of dh m hm) even₂)
+            (first-second ch dh even₁ n (net-of dh n hn) even₂)
             ∙ less-sum (width ch) (lastColumn dh m) (firstColumn dh n);
         below = λ n hn. below-second ch dh even₁ n (net-of dh n hn);
       }
@@ -67,7 +67,8 @@ module _ {ch dh : Channel} (fit : Fits ch dh) where
     where
       order : netItems both .order ≡ map (λ n. n) (netItems ch .order) ++ map up (netItems dh .order)
       order = unfold netItems in (
-          order-both fit ∙ ap (λ (l : List ℕ). l ++ map up (netItems dh .order)) (sym (map-itself (netItems ch .order))))
+          order-both fit
+          ∙ ap (λ (l : List ℕ). l ++ map up (netItems dh .order)) (sym (map-itself (netItems ch .order))))
 
       disjoint : (m n : ℕ) → List·Memᴰ m (netItems ch .order) → List·Memᴰ n (netItems dh .order) → m ≡ up n → ⊥
       disjoint m n hm hn e =

@@ -1,13 +1,13 @@
 -- Three lists on one panel. The highest number of two joined lists is the sum of their highest, and raising twice is
 -- raising by the sum: so either grouping gives the same rows, and asks the same of widths and numbers.
-use Prim.Native.Nat.{ℕ, max, _+_, _≤_}
+use Prim.Native.Nat.{ℕ, max, _+_}
 use native.Mathlib.Omega.{arith}
-use mathlib.Core.Path.{_≡_, refl, sym, _∙_, ap, ap₂}
+use mathlib.Core.Path.{_≡_, sym, _∙_, ap, ap₂}
 use mathlib.Core.List.{List, [], _∷_, _++_, map, map-append, append-assoc}
 use Rattle.lists.specs.Lists.{greatest}
 use Rattle.lists.specs.Parts.{greatest-append, map-two}
 use Rattle.lists.specs.Updates.{map-same}
-use Rattle.channel.specs.Channel.{Channel, rows, width, highestNet, widest}
+use Rattle.channel.specs.Channel.{Channel, rows}
 use Rattle.panel.specs.Joined.{highest, raised, joined, Fits}
 use Rattle.panel.specs.Promise.{PanelPromise, GroupPromise}
 use Rattle.panel.specs.RaiseLaws.{RaisedTo, none, some, raised-to, raised-zero, raised-twice}
@@ -81,7 +81,8 @@ module _ (ch dh eh : Channel) where
       let n = two .numbers in
       let w′ = width-both dh eh in
       let h′ = highest-both dh eh in
-      let inner : Fits dh eh = record { first = one .second; second = two .second; columns = omega arith; numbers = omega arith } in
+      let inner : Fits dh eh =
+      record { first = one .second; second = two .second; columns = omega arith; numbers = omega arith } in
       (inner, record { first = one .first; second = both-escapes inner; columns = omega arith; numbers = omega arith })
 
   fits-left : Fits dh eh × Fits ch (joined dh eh) → Fits ch dh × Fits (joined ch dh) eh
@@ -92,7 +93,8 @@ module _ (ch dh eh : Channel) where
       let n = two .numbers in
       let w′ = width-both ch dh in
       let h′ = highest-both ch dh in
-      let inner : Fits ch dh = record { first = two .first; second = one .first; columns = omega arith; numbers = omega arith } in
+      let inner : Fits ch dh =
+      record { first = two .first; second = one .first; columns = omega arith; numbers = omega arith } in
       (inner, record { first = both-escapes inner; second = one .second; columns = omega arith; numbers = omega arith })
 
   pub group-promise : GroupPromise ch dh eh

@@ -2,8 +2,8 @@
 -- of the second raised. No number is of both, since those of the first are at most its highest.
 use Prim.Native.Nat.{ℕ, suc, max, _+_, _≤_, _<_}
 use native.Mathlib.Omega.{arith}
-use mathlib.Core.Path.{_≡_, refl, sym, _∙_, ap, subst}
-use mathlib.Core.List.{List, [], map, List·Memᴰ}
+use mathlib.Core.Path.{_≡_, refl, sym, _∙_, ap}
+use mathlib.Core.List.{List, map, List·Memᴰ}
 use mathlib.Core.Logic.{⊎-elim}
 use mathlib.Core.Bool.{false, _&&_}
 use lib.ListN.{length, length-append, length-map}
@@ -19,7 +19,7 @@ use Rattle.lists.specs.Ranges.{fails→none-kept, length-keep-map}
 use Rattle.lists.specs.Tallies.{keep-same, length-keep-append}
 use Rattle.channel.specs.Channel.{Channel, width, positions, highestNet, pinCount, isNet}
 use Rattle.channel.specs.Answers.{Escapes}
-use Rattle.channel.specs.Laws.{net→pin, net-positive}
+use Rattle.channel.specs.Laws.{net→pin}
 use Rattle.panel.specs.Joined.{highest, raised, joined}
 use Rattle.panel.specs.Code.{LowRow}
 use Rattle.panel.specs.RaiseLaws.{raised-zero, raised-some, raised-above, raised-test}

@@ -1,7 +1,6 @@
 -- 02, Req 09: two lists on one panel, as one list.
 use Prim.Native.Nat.{ℕ, _+_, _≤_}
-use mathlib.Core.Path.{_≡_}
-use mathlib.Core.List.{List, _++_, map, List·Memᴰ}
+use mathlib.Core.List.{List, _++_, map}
 use mathlib.Core.Bool.{cond}
 use lib.Dec.{eqb}
 use Rattle.lists.specs.Lists.{greatest}
@@ -22,8 +21,8 @@ joined ch dh =
     let lift : List ℕ → List ℕ = map (raised (highest ch)) in
     rows (ch .top ++ lift (dh .top)) (ch .bot ++ lift (dh .bot))
 
--- two lists that fit on a panel: each escapes refusals 3 to 5 alone, their columns are at most 512, and no raised number
--- exceeds 511. The last is said of the highest raised one: by `none-over` and `low-sum` it is the same
+-- two lists that fit on a panel: each escapes refusals 3 to 5 alone, their columns are at most 512, and no raised
+-- number exceeds 511. The last is said of the highest raised one: by `none-over` and `low-sum` it is the same
 pub record Fits (ch dh : Channel) : Type 0 where
   pub first : Escapes ch
   pub second : Escapes dh

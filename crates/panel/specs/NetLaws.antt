@@ -2,8 +2,8 @@
 -- list, and then those of the second, raised.
 use Prim.Native.Nat.{ℕ, _+_, _-_, _≤_, _<_}
 use native.Mathlib.Omega.{arith}
-use mathlib.Core.Path.{_≡_, refl, sym, _∙_, ap, ap₂}
-use mathlib.Core.List.{List, [], _++_, map, append-nil, List·Memᴰ}
+use mathlib.Core.Path.{_≡_, sym, _∙_, ap, ap₂}
+use mathlib.Core.List.{List, _++_, map, append-nil}
 use mathlib.Core.Bool.{Bool}
 use lib.ListN.{length}
 use lib.Dec.{T, ltb, eqb, eqb→eq, ltb→lt, lt→ltb}
@@ -126,13 +126,15 @@ module _ {ch dh : Channel} (fit : Fits ch dh) where
   starting-first c within =
       starting-parts c ∙ (ap (λ (l : List ℕ). starting ch c ++ map up l)
       (fails→none-kept (λ n. eqb (width ch + firstColumn dh n) c) (spanning dh)
-      (λ n m t. let e = eqb→eq (width ch + firstColumn dh n) c t in let s = starts-inside dh even₂ n m .0 in omega arith))
+      (λ n m t. let e = eqb→eq (width ch + firstColumn dh n) c t in
+      let s = starts-inside dh even₂ n m .0 in omega arith))
       ∙ append-nil (starting ch c))
 
   starting-second : (c : ℕ) → 0 < c → starting both (width ch + c) ≡ map up (starting dh c)
   unfolding starting
   starting-second c inside =
-      starting-parts (width ch + c) ∙ ap₂ _++_ (fails→none-kept (λ n. eqb (firstColumn ch n) (width ch + c)) (spanning ch)
+      starting-parts (width ch + c)
+      ∙ ap₂ _++_ (fails→none-kept (λ n. eqb (firstColumn ch n) (width ch + c)) (spanning ch)
       (λ n m t. let e = eqb→eq (firstColumn ch n) (width ch + c) t in let l = columns-inside ch n .0 in omega arith))
       (ap (map up) (keep-same (λ n. eqb (width ch + firstColumn dh n) (width ch + c)) (λ n. eqb (firstColumn dh n) c)
       (spanning dh) (λ n m. same-sum (width ch) (firstColumn dh n) c)))

@@ -1,19 +1,18 @@
 -- Refusal 18. The numbers of a joined list over 511 are the raised ones over 511, and there are none exactly if the
 -- highest numbers of both lists have a sum of at most 511. The code looks for the lowest number of the second list that
 -- is over what is left to 511; raised, it is the place.
-use Prim.Native.Nat.{ℕ, zero, suc, _+_, _-_, _≤_, _<_}
+use Prim.Native.Nat.{ℕ, _+_, _-_, _≤_, _<_}
 use native.Mathlib.Omega.{arith}
 use native.Mathlib.Decide.{decLe}
-use mathlib.Core.Path.{_≡_, refl, sym, _∙_, ap, subst}
-use mathlib.Core.List.{List, [], _∷_, _++_, map, List·Memᴰ, List·Memᴰ·head, List·Memᴰ·tail, List·Memᴰ·not-nil}
+use mathlib.Core.Path.{_≡_, refl, sym}
+use mathlib.Core.List.{List, [], _∷_, List·Memᴰ, List·Memᴰ·head, List·Memᴰ·tail, List·Memᴰ·not-nil}
 use mathlib.Core.List.{Memᴰ·map, Memᴰ·of-map, Memᴰ·cast, Memᴰ·append-left, Memᴰ·append-right}
 use mathlib.Core.List.{List·Memᴰ·append-cases, List·Memᴰ·cases-cons}
-use mathlib.Core.Logic.{_⊎_, _↔_, inl, inr, ⊎-elim}
+use mathlib.Core.Logic.{_⊎_, inl, inr, ⊎-elim}
 use mathlib.Core.Bool.{Bool, true, false, cond, _&&_}
 use mathlib.Core.Option.{none, some}
-use lib.ListN.{length}
-use lib.Dec.{T, ltb, ltb→lt, lt→ltb}
-use Rattle.lists.specs.Lists.{keep, least, greatest, Lowest}
+use lib.Dec.{ltb, ltb→lt, lt→ltb}
+use Rattle.lists.specs.Lists.{least, Lowest}
 use Rattle.lists.specs.Tests.{true→T, false→fails, and-left, and-right, and-both}
 use Rattle.lists.specs.Members.{keep-member, kept}
 use Rattle.lists.specs.Ranges.{no-member→empty, none-kept→fails}

@@ -11,15 +11,15 @@ use Rattle.lists.specs.Lists.{at}
 use Rattle.lists.specs.Orders.{member?}
 use Rattle.lists.specs.Parts.{map-two}
 use Rattle.lists.specs.Updates.{map-same}
-use Rattle.grid.specs.Pieces.{column, track, net}
-use Rattle.channel.specs.Channel.{Channel, width, highestNet, isNet, firstColumn, lastColumn, nets}
+use Rattle.grid.specs.Pieces.{net}
+use Rattle.channel.specs.Channel.{Channel, width, highestNet, isNet, nets}
 use Rattle.channel.specs.Constraints.{Tangled}
 use Rattle.channel.specs.Answers.{Escapes}
 use Rattle.channel.specs.Laws.{net-positive}
 use Rattle.channel.specs.SpanLaws.{nets→, spanning→}
 use Rattle.leftedge.specs.declared.NetRecord.{NetRecord}
 use Rattle.leftedge.specs.Items.{Place, trackOf}
-use Rattle.leftedge.specs.Fill.{filled, stuck}
+use Rattle.leftedge.specs.Fill.{filled}
 use Rattle.leftedge.specs.FillEnds.{filled-or-stuck}
 use Rattle.leftedge.specs.Walk.{ringOf}
 use Rattle.leftedge.specs.Nets.{netItems, fill, recordOf, records}
@@ -80,7 +80,8 @@ module _ {ch dh : Channel} (fit : Fits ch dh) where
           let b = bot-second ch dh even₁ k inside in
           let x = raised-low (highest ch) (highest dh) (at (dh .top) k) (top≤highest dh k) (fit .numbers) in
           let y = raised-low (highest ch) (highest dh) (at (dh .bot) k) (bot≤highest dh k) (fit .numbers) in
-          subst (λ (j : ℕ). (at (both .top) j ≤ highestNet) × (at (both .bot) j ≤ highestNet)) e (omega arith, omega arith)
+          subst (λ (j : ℕ). (at (both .top) j ≤ highestNet) × (at (both .bot) j ≤ highestNet)) e
+          (omega arith, omega arith)
 
   -- the joined list escapes refusals 3 to 5
   pub both-escapes : Escapes both

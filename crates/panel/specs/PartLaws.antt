@@ -109,7 +109,8 @@ module _ (ch dh : Channel) (even : length (ch .bot) ≡ width ch) where
         below-columns both n
         ∙ (ap (λ (w : ℕ). map (at (both .bot)) (keep (overAnother both n) (upTo w))) (width-both ch dh)
         ∙ (ap (map (at (both .bot))) (keep-former (overAnother both n) (width ch) (width dh) elsewhere
-        ∙ keep-same (overAnother both n) (overAnother ch n) (upTo (width ch)) (λ c m. over-first c (upTo-member _ m .1)))
+        ∙ keep-same (overAnother both n) (overAnother ch n) (upTo (width ch))
+        (λ c m. over-first c (upTo-member _ m .1)))
         ∙ (map-same (at (both .bot)) (at (ch .bot)) (keep (overAnother ch n) (upTo (width ch)))
         (λ c m. bot-first ch dh even c (upTo-member _ (keep-member (overAnother ch n) (upTo (width ch)) m .0) .1))
         ∙ sym (below-columns ch n))))

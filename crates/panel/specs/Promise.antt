@@ -15,7 +15,8 @@ use Rattle.leftedge.specs.Fill.{filled}
 use Rattle.leftedge.specs.Nets.{fill, records}
 use Rattle.panel.specs.Joined.{highest, raised, joined, Fits}
 
--- a net record of the second list, as it stands on the panel: its number raised, its columns moved on, its track as it is
+-- a net record of the second list, as it stands on the panel: its number raised, its columns moved on, its track as it
+-- is
 unfoldable pub movedRecord : Channel → NetRecord → NetRecord
 movedRecord ch r =
     record {

@@ -1,12 +1,12 @@
--- A net is as deep on a panel as it is alone. So a ring of either list keeps the panel tangled, where neither has one the
--- panel is filled, and the chain of an untangled panel is the larger of both.
+-- A net is as deep on a panel as it is alone. So a ring of either list keeps the panel tangled, where neither has one
+-- the panel is filled, and the chain of an untangled panel is the larger of both.
 use Prim.Native.Nat.{ℕ, zero, suc, max, _≤_, _<_}
 use native.Mathlib.Omega.{arith}
 use native.Mathlib.Decide.{decLt}
 use mathlib.Core.Path.{_≡_, refl, sym, _∙_, ap, subst}
-use mathlib.Core.List.{List, _++_, map, List·Memᴰ, Memᴰ·map, Memᴰ·of-map, Memᴰ·append-left, Memᴰ·append-right}
+use mathlib.Core.List.{List, map, List·Memᴰ, Memᴰ·map, Memᴰ·of-map, Memᴰ·append-left, Memᴰ·append-right}
 use mathlib.Core.List.{List·Memᴰ·append-cases}
-use mathlib.Core.Logic.{_⊎_, _↔_, inl, inr, ⊎-elim}
+use mathlib.Core.Logic.{_⊎_, inl, inr, ⊎-elim}
 use lib.ListN.{length}
 use lib.Dec.{T}
 use Rattle.lists.specs.Lists.{greatest}
@@ -66,7 +66,8 @@ module _ {ch dh : Channel} (fit : Fits ch dh) (esc : Escapes (joined ch dh)) whe
   deep-part fuel n s =
       ⊎-elim (λ m. inl (m, depth-first fuel n (spanning→ ch n m .0 .isNet)))
       (λ m. let r = Memᴰ·of-map up (spanning dh) m in
-      inr (r .0, r .1, ap (depth fuel both) (sym (r .2)) ∙ depth-second fuel (r .0) (spanning→ dh (r .0) (r .1) .0 .isNet)))
+      let deep = depth-second fuel (r .0) (spanning→ dh (r .0) (r .1) .0 .isNet) in
+      inr (r .0, r .1, ap (depth fuel both) (sym (r .2)) ∙ deep))
       (List·Memᴰ·append-cases (spanning ch) (subst (λ (l : List ℕ). List·Memᴰ n l) (spanning-both fit) s))
 
   -- a ring of either list

@@ -1,13 +1,10 @@
 -- `panel::join` meets its contract, by the laws of AnswerLaws: short rows are refused first, then what the check of the
 -- lists refuses, and else the answer is that of lists that each pass alone.
-use Prim.Native.Nat.{_≤_}
-use native.Mathlib.Omega.{arith}
 use mathlib.Core.Path.{_≡_, sym, _∙_}
 use mathlib.Core.Logic.{inl, inr, ⊎-elim}
 use borrow.Author.Needs.{needs}
 use borrow.Author.Tests.{ltb-true, ltb-false}
 use denote.Ref.{now}
-use lib.ListN.{length}
 use Rattle.channel.specs.declared.RowsAnswer.the-variants as checking
 use Rattle.channel.specs.Channel.{Channel, rows}
 use Rattle.panel.specs.Answers.{listsAnswer}

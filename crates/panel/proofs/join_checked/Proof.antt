@@ -1,11 +1,10 @@
--- `panel::join_checked` meets its contract, by the laws of AnswerLaws: too many columns are refused first, then a raised
--- number over 511, and else both rows are stored, the second list's behind the first's.
-use Prim.Native.Nat.{ℕ, _≤_, _<_}
+-- `panel::join_checked` meets its contract, by the laws of AnswerLaws: too many columns are refused first, then a
+-- raised number over 511, and else both rows are stored, the second list's behind the first's.
+use Prim.Native.Nat.{_≤_}
 use native.Mathlib.Omega.{arith}
-use mathlib.Core.Path.{_≡_, sym, _∙_, ap}
+use mathlib.Core.Path.{_≡_}
 use borrow.Author.Needs.{needs}
 use denote.Ref.{now}
-use lib.ListN.{length}
 use Rattle.channel.specs.Channel.{Channel, rows, highestNet}
 use Rattle.panel.specs.Joined.{highest}
 use Rattle.panel.specs.JoinLaws.{low-rows, highest-low}
@@ -44,8 +43,8 @@ returns-2 : tie.Need-returns-2
 returns-2 c =
     let h = c .before .before in
     let s = start h in
-    checked-full (one s) (two s) (s .pre .0) (s .pre .1) (h .before .if1 .left) _ _ (known h) (c .before .lowest-of .ensures)
-    (c .if2 .taken)
+    checked-full (one s) (two s) (s .pre .0) (s .pre .1) (h .before .if1 .left) _ _ (known h)
+    (c .before .lowest-of .ensures) (c .if2 .taken)
 
 put-row-requires : tie.Need-put-row-requires
 put-row-requires c κs =
@@ -76,6 +75,6 @@ returns-3 c =
 pub join-checked-spec : {M : Type 1} → statement M
 join-checked-spec =
     tie.close
-    (tie.spec (λ c. search needs) (λ c. search needs) returns (λ c κs. search needs) sub-lowest-of (λ c κs. search needs)
-    add-t16 (λ c. search needs) returns-2 put-row-requires put-row-requires-2 (λ c. search needs) (λ c. search needs)
-    returns-3)
+    (tie.spec (λ c. search needs) (λ c. search needs) returns (λ c κs. search needs) sub-lowest-of
+    (λ c κs. search needs) add-t16 (λ c. search needs) returns-2 put-row-requires put-row-requires-2
+    (λ c. search needs) (λ c. search needs) returns-3)

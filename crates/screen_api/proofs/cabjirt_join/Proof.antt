@@ -1,5 +1,5 @@
--- `cabjirt_join` meets its contract: in both cases the number is that of what `join` answers, and the rows are as `join`
--- left them.
+-- `cabjirt_join` meets its contract: in both cases the number is that of what `join` answers, and the rows are as
+-- `join` left them.
 use Rattle.panel.specs.Answers.{joinTold}
 use Rattle.screen_api.specs.CodeLaws.{join-entry, join-width}
 use borrow.Author.Needs.{needs}

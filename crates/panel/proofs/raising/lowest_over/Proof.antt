@@ -1,5 +1,5 @@
--- `panel::raising::lowest_over` meets its contract. The loop's invariant: from `lowest` on, what is left of the row gives
--- what is to be answered. What is left of the row falls.
+-- `panel::raising::lowest_over` meets its contract. The loop's invariant: from `lowest` on, what is left of the row
+-- gives what is to be answered. What is left of the row falls.
 use Prim.Native.Nat.{ℕ, _+_, _≤_, _<_, _-_}
 use native.Mathlib.Numerals.{add-one}
 use native.Mathlib.Omega.{arith}
