@@ -6,7 +6,7 @@ import unittest.mock
 from command import answers, panels
 from command.tests.panel_lists import (A_B, A_B_LISTED, B, B_A, BARE, GAP, PARKED, STRAIGHT, Panels, begins, text,
                                        wide)
-from command.tests.workshop import A, ROOT, TANGLED
+from command.tests.workshop import A, REFUSED_LISTS, ROOT, TANGLED
 
 sys.path.insert(0, str(ROOT / "reference"))
 import channel  # noqa: E402  (the independent program, which lists the random lists)
@@ -25,17 +25,6 @@ JOINED = {  # two lists, their panel, the column in which the second begins, and
     "the highest number that fits": (wide(1, 510), STRAIGHT, b"TOP 510 511\nBOT 510 511\n", 2, 510),
     "as wide as may be": (wide(511, 3), STRAIGHT, text([0] * 510 + [3, 4], [0] * 510 + [3, 4]), 512, 3),
     "511 columns behind": (STRAIGHT, wide(511, 3), text([1] + [0] * 510 + [4], [1] + [0] * 510 + [4]), 2, 1),
-}
-REFUSED = {  # lists and their refusals
-    b"TOP" + b" 0" * 40000: b"REFUSED 0 65536\n",
-    b"": b"REFUSED 2 0\n",
-    b"TOP 1 02\nBOT 1 2\n": b"REFUSED 2 7\n",
-    b"TOP 1 2\nBOT 2 1": b"REFUSED 2 15\n",
-    b"TOP 1 \xff\nBOT 1\n": b"REFUSED 2 6\n",
-    wide(513): b"REFUSED 3 513\n",
-    b"TOP 1 2 2\nBOT 2 1\n": b"REFUSED 4 3\n",
-    b"TOP 1 2\nBOT 2 512\n": b"REFUSED 5 4\n",
-    b"TOP 1 2\nBOT 2 " + b"9" * 5000 + b"\n": b"REFUSED 5 4\n",
 }
 
 
@@ -214,7 +203,7 @@ class Parked(Panels):
 
 class Refused(Panels):
     def test_each_list_is_refused_under_its_own_name(self):
-        for pins, due in REFUSED.items():
+        for pins, due in REFUSED_LISTS.items():
             with self.subTest(due, pins=pins[:30]):
                 alone = self.told(pins, pins, "list", "a.txt")
                 self.assertEqual(alone[:2], (1, due))

@@ -5,7 +5,7 @@ import sys
 import unittest
 
 from command import answers, explain, rings
-from command.tests.workshop import A, LISTED, ROOT, TANGLED, Workshop
+from command.tests.workshop import A, LISTED, REFUSED_LISTS, ROOT, TANGLED, Workshop
 
 sys.path.insert(0, str(ROOT / "reference"))
 import channel  # noqa: E402  (the independent program, which finds the rings)
@@ -29,16 +29,6 @@ FOUND = {  # lists, their rings, and the words of these
                    "column 3"),
 }
 NONE = (A, b"TOP 0\nBOT 0\n", b"TOP 5\nBOT 5\n", b"TOP 1 2 1\nBOT 2 0 0\n", b"TOP 1 1 2\r\nBOT 2 3 3\r\n")
-REFUSED = {  # lists and their refusals
-    b"TOP" + b" 0" * 40000: b"REFUSED 0 65536\n",
-    b"": b"REFUSED 2 0\n",
-    b"TOP 1 02\nBOT 1 2\n": b"REFUSED 2 7\n",
-    b"TOP 1 2\nBOT 2 1": b"REFUSED 2 15\n",
-    b"TOP 1 \xff\nBOT 1\n": b"REFUSED 2 6\n",
-    b"TOP" + b" 0" * 513 + b"\nBOT" + b" 0" * 513 + b"\n": b"REFUSED 3 513\n",
-    b"TOP 1 2 2\nBOT 2 1\n": b"REFUSED 4 3\n",
-    b"TOP 1 2\nBOT 2 512\n": b"REFUSED 5 4\n",
-}
 RIGHT = "printf 'RING 1 1\\nRING 2 5\\n'"
 WRONG_FINDERS = {  # what is no answer of LONGER
     "fails": "exit 3", "says nothing": "exit 0", "says it and fails": f"{RIGHT}; exit 1",
@@ -132,7 +122,7 @@ class Ring(Workshop):
         self.assertTrue(words.startswith("channel: standard input: the fewest wires to move: 2 nets: net 1 above "))
 
     def test_what_is_refused(self):
-        for pins, due in REFUSED.items():
+        for pins, due in REFUSED_LISTS.items():
             with self.subTest(pins[:20]):
                 status, output, words = self.told(pins)
                 self.assertEqual((status, output, words.count("\n")), (1, due, 2))

@@ -13,6 +13,17 @@ CHOOSER = ROOT / "target" / "choose"
 A = b"TOP 0 1 2 3\nBOT 1 2 0 3\n"
 LISTED = b"BOARD 4 2 8\nBOUND 2 2\nNET 1 1 2 2\nNET 2 2 3 1\nNET 3 4 4 0\nEND 11\n"
 TANGLED = b"TOP 1 2\nBOT 2 1\n"
+REFUSED_LISTS = {  # lists that no command takes, and their refusals
+    b"TOP" + b" 0" * 40000: b"REFUSED 0 65536\n",
+    b"": b"REFUSED 2 0\n",
+    b"TOP 1 02\nBOT 1 2\n": b"REFUSED 2 7\n",
+    b"TOP 1 2\nBOT 2 1": b"REFUSED 2 15\n",
+    b"TOP 1 \xff\nBOT 1\n": b"REFUSED 2 6\n",
+    b"TOP" + b" 0" * 513 + b"\nBOT" + b" 0" * 513 + b"\n": b"REFUSED 3 513\n",
+    b"TOP 1 2 2\nBOT 2 1\n": b"REFUSED 4 3\n",
+    b"TOP 1 2\nBOT 2 512\n": b"REFUSED 5 4\n",
+    b"TOP 1 2\nBOT 2 " + b"9" * 5000 + b"\n": b"REFUSED 5 4\n",
+}
 OLD = b"what stood here before"
 
 

@@ -57,11 +57,12 @@ pub fn put_joined(top1: &[u32], bot1: &[u32], bytes: &[u8]) {
     let mut top2 = [0u32; ROW_ROOM];
     let mut bot2 = [0u32; ROW_ROOM];
     let halves = bytes.len() / 2;
-    let size = rows::number_at(bytes, 0) as usize;
-    let a = least(least(size, halves), ROW_ROOM);
-    if halves <= a {
-        return join_rows(top1, bot1, bytes, a, 0, &mut top2, &mut bot2);
+    if halves == 0 {
+        return join_rows(top1, bot1, bytes, 0, 0, &mut top2, &mut bot2);
     }
-    let b = least(halves - a - 1, ROW_ROOM);
+    let numbers = halves - 1;
+    let size = rows::number_at(bytes, 0) as usize;
+    let a = least(least(size, numbers), ROW_ROOM);
+    let b = least(numbers - a, ROW_ROOM);
     join_rows(top1, bot1, bytes, a, b, &mut top2, &mut bot2)
 }

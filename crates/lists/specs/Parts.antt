@@ -65,10 +65,6 @@ module _ {A B : Type 0} (g : A → B) where
   map-each f (x ∷ xs) =
       map-append g (f x) (each f xs) ∙ ap (λ (l : List B). map g (f x) ++ l) (map-each f xs)
 
-  pub map-two : {C : Type 0} (f : B → C) (xs : List A) → map f (map g xs) ≡ map (λ x. f (g x)) xs
-  map-two f [] = refl
-  map-two {C} f (x ∷ xs) = ap (λ (l : List C). f (g x) ∷ l) (map-two f xs)
-
 pub each-same : {A B : Type 0} (f g : A → List B) (xs : List A) → ((x : A) → List·Memᴰ x xs → f x ≡ g x)
     → each f xs ≡ each g xs
 unfolding each

@@ -2,13 +2,13 @@
 use Prim.Native.Nat.{ℕ, max, _+_, _≤_, _<_}
 use native.Mathlib.Omega.{arith}
 use mathlib.Core.Path.{_≡_, sym, _∙_, ap, ap₂}
-use mathlib.Core.List.{List, _++_, map, map-append, List·Memᴰ, Memᴰ·of-map}
+use mathlib.Core.List.{List, _++_, map, map-map, map-append, List·Memᴰ, Memᴰ·of-map}
 use lib.ListN.{length}
 use lib.Dec.{leb, leb→le, le→leb}
 use Rattle.lists.specs.Lists.{upTo, greatest, within}
 use Rattle.lists.specs.Tests.{same-test, within→}
 use Rattle.lists.specs.Members.{upTo-member}
-use Rattle.lists.specs.Parts.{upTo-two, map-two, greatest-append}
+use Rattle.lists.specs.Parts.{upTo-two, greatest-append}
 use Rattle.lists.specs.Ranges.{length-keep-map, fails→none-kept}
 use Rattle.lists.specs.Tallies.{keep-same, length-keep-append}
 use Rattle.lists.specs.Updates.{map-same}
@@ -73,13 +73,13 @@ module _ {ch dh : Channel} (fit : Fits ch dh) where
       ∙ (map-append (spanOf both) (spanning ch) (map up (spanning dh))
       ∙ ap₂ _++_ (map-same (spanOf both) (spanOf ch) (spanning ch) (λ n m. let net = spanning→ ch n m .0 .isNet in
       rw (first-first ch dh (fit .first .even) n net, last-first ch dh (fit .first .even) n net)))
-      (map-two up (spanOf both) (spanning dh)
+      (map-map (spanOf both) up (spanning dh)
       ∙ (map-same (λ n. spanOf both (up n)) (λ n. on (spanOf dh n)) (spanning dh)
       (λ n m. let net = spanning→ dh n m .0 .isNet in
       rw (
         first-second ch dh (fit .first .even) n net (fit .second .even),
         last-second ch dh (fit .first .even) n net (fit .second .even),
-      )) ∙ sym (map-two (spanOf dh) on (spanning dh)))))
+      )) ∙ sym (map-map on (spanOf dh) (spanning dh)))))
 
   first-inside : (c : ℕ) → width ch < c → spansOver (spansOf ch) c ≡ 0
   unfolding spansOf
@@ -109,7 +109,7 @@ module _ {ch dh : Channel} (fit : Fits ch dh) where
       ∙ (ap (λ (l : List ℕ). greatest (map (spansOver (spansOf both)) l)) (upTo-two d (width dh))
       ∙ (ap greatest (map-append (spansOver (spansOf both)) (upTo d) (map (λ c. d + c) (upTo (width dh)))
       ∙ ap₂ _++_ (map-same (spansOver (spansOf both)) (spansOver (spansOf ch)) (upTo d) in-first)
-      (map-two (λ c. d + c) (spansOver (spansOf both)) (upTo (width dh))
+      (map-map (spansOver (spansOf both)) (λ c. d + c) (upTo (width dh))
       ∙ map-same (λ c. spansOver (spansOf both) (d + c)) (spansOver (spansOf dh)) (upTo (width dh)) in-second))
       ∙ greatest-append (map (spansOver (spansOf ch)) (upTo d)) (map (spansOver (spansOf dh)) (upTo (width dh)))))
     where

@@ -2,8 +2,8 @@
 -- each list alone is filled, the panel is, with each net on the track that it has alone.
 use Prim.Native.Nat.{ℕ, _+_}
 use native.Mathlib.Omega.{arith}
-use mathlib.Core.Path.{_≡_, refl, sym, _∙_, ap, ap₂}
-use mathlib.Core.List.{List, [], _∷_, _++_, map, List·Memᴰ}
+use mathlib.Core.Path.{_≡_, sym, _∙_, ap, ap₂}
+use mathlib.Core.List.{List, _++_, map, List·Memᴰ, map-id}
 use lib.ListN.{length}
 use lib.Dec.{T, ltb, lt→ltb}
 use Rattle.channel.specs.Channel.{Channel, width, isNet, firstColumn, lastColumn}
@@ -18,10 +18,6 @@ use Rattle.panel.specs.RaiseLaws.{raised-some, raised-apart}
 use Rattle.panel.specs.JoinLaws.{net≤highest}
 use Rattle.panel.specs.PartLaws.{first-first, last-first, first-second, last-second, below-first, below-second}
 use Rattle.panel.specs.NetLaws.{less-sum, order-both}
-
-map-itself : (xs : List ℕ) → map (λ n. n) xs ≡ xs
-map-itself [] = refl
-map-itself (x ∷ xs) = ap (λ (l : List ℕ). x ∷ l) (map-itself xs)
 
 module _ {ch dh : Channel} (fit : Fits ch dh) where
   abbrev both : Channel
@@ -46,7 +42,7 @@ module _ {ch dh : Channel} (fit : Fits ch dh) where
         apart = λ m n e. e;
         fits = λ m n hm hn.
             ap₂ ltb (last-first ch dh even₁ m (net-of ch m hm)) (first-first ch dh even₁ n (net-of ch n hn));
-        below = λ n hn. below-first ch dh even₁ n (net-of ch n hn) ∙ sym (map-itself (below ch n));
+        below = λ n hn. below-first ch dh even₁ n (net-of ch n hn) ∙ sym (map-id (below ch n));
       }
 
   second-part : PartOf (netItems both) (netItems dh) up
@@ -68,7 +64,7 @@ module _ {ch dh : Channel} (fit : Fits ch dh) where
       order : netItems both .order ≡ map (λ n. n) (netItems ch .order) ++ map up (netItems dh .order)
       order = unfold netItems in (
           order-both fit
-          ∙ ap (λ (l : List ℕ). l ++ map up (netItems dh .order)) (sym (map-itself (netItems ch .order))))
+          ∙ ap (λ (l : List ℕ). l ++ map up (netItems dh .order)) (sym (map-id (netItems ch .order))))
 
       disjoint : (m n : ℕ) → List·Memᴰ m (netItems ch .order) → List·Memᴰ n (netItems dh .order) → m ≡ up n → ⊥
       disjoint m n hm hn e =

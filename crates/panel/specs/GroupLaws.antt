@@ -3,9 +3,9 @@
 use Prim.Native.Nat.{ℕ, max, _+_}
 use native.Mathlib.Omega.{arith}
 use mathlib.Core.Path.{_≡_, sym, _∙_, ap, ap₂}
-use mathlib.Core.List.{List, [], _∷_, _++_, map, map-append, append-assoc}
+use mathlib.Core.List.{List, [], _∷_, _++_, map, map-map, map-append, append-assoc}
 use Rattle.lists.specs.Lists.{greatest}
-use Rattle.lists.specs.Parts.{greatest-append, map-two}
+use Rattle.lists.specs.Parts.{greatest-append}
 use Rattle.lists.specs.Updates.{map-same}
 use Rattle.channel.specs.Channel.{Channel, rows}
 use Rattle.panel.specs.Joined.{highest, raised, joined, Fits}
@@ -62,7 +62,7 @@ grouped a b xs ys zs =
     append-assoc xs (map (raised a) ys) (map (raised (a + b)) zs)
     ∙ ap (λ (l : List ℕ). xs ++ l) (ap (λ (l : List ℕ). map (raised a) ys ++ l)
     (map-same (raised (a + b)) (λ n. raised a (raised b n)) zs (λ n m. sym (raised-twice a b n))
-    ∙ sym (map-two (raised b) (raised a) zs)) ∙ sym (map-append (raised a) ys (map (raised b) zs)))
+    ∙ sym (map-map (raised a) (raised b) zs)) ∙ sym (map-append (raised a) ys (map (raised b) zs)))
 
 module _ (ch dh eh : Channel) where
   pub same-rows : joined (joined ch dh) eh ≡ joined ch (joined dh eh)

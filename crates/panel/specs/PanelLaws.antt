@@ -3,13 +3,12 @@ use Prim.Native.Nat.{ℕ, max, _+_, _-_, _≤_, _<_}
 use native.Mathlib.Omega.{arith}
 use native.Mathlib.Decide.{decLe}
 use mathlib.Core.Path.{_≡_, refl, sym, _∙_, ap, ap₂, subst}
-use mathlib.Core.List.{List, _++_, map, map-append, List·Memᴰ, Memᴰ·of-map, Memᴰ·cast, List·Memᴰ·append-cases}
+use mathlib.Core.List.{List, _++_, map, map-map, map-append, List·Memᴰ, Memᴰ·of-map, Memᴰ·cast, List·Memᴰ·append-cases}
 use mathlib.Core.Logic.{_⊎_, inl, inr, ⊎-elim}
 use lib.ListN.{length, length-append, length-map}
 use lib.Dec.{T}
 use Rattle.lists.specs.Lists.{at}
 use Rattle.lists.specs.Orders.{member?}
-use Rattle.lists.specs.Parts.{map-two}
 use Rattle.lists.specs.Updates.{map-same}
 use Rattle.grid.specs.Pieces.{net}
 use Rattle.channel.specs.Channel.{Channel, width, highestNet, isNet, nets}
@@ -160,9 +159,9 @@ module _ {ch dh : Channel} (fit : Fits ch dh) where
         ∙ (map-append (recordOf both (alone .places)) (nets ch) (map up (nets dh))
         ∙ ap₂ {C = List NetRecord} _++_ (map-same (recordOf both (alone .places)) (recordOf ch ps₁) (nets ch)
         (λ n m. record-first n (nets→ ch n m .isNet)))
-        (map-two up (recordOf both (alone .places)) (nets dh)
+        (map-map (recordOf both (alone .places)) up (nets dh)
         ∙ (map-same (λ n. recordOf both (alone .places) (up n)) (λ n. movedRecord ch (recordOf dh ps₂ n)) (nets dh)
-        (λ n m. record-second n (nets→ dh n m .isNet)) ∙ sym (map-two (recordOf dh ps₂) (movedRecord ch) (nets dh)))))
+        (λ n m. record-second n (nets→ dh n m .isNet)) ∙ sym (map-map (movedRecord ch) (recordOf dh ps₂) (nets dh)))))
 
     stands-alone : StandsAlone ch dh both
     stands-alone =

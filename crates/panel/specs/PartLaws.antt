@@ -3,7 +3,7 @@
 use Prim.Native.Nat.{ℕ, _+_, _≤_, _<_}
 use native.Mathlib.Omega.{arith}
 use mathlib.Core.Path.{_≡_, sym, _∙_, ap}
-use mathlib.Core.List.{List, map, List·Memᴰ}
+use mathlib.Core.List.{List, map, map-map, List·Memᴰ}
 use mathlib.Core.Logic.{⊎-elim}
 use mathlib.Core.Bool.{Bool}
 use lib.ListN.{length}
@@ -11,7 +11,7 @@ use lib.Dec.{T, eqb, eqb→eq}
 use Rattle.lists.specs.Lists.{keep, upTo, headOr, lastOr, at}
 use Rattle.lists.specs.Tests.{and-left, and-right, or-cases}
 use Rattle.lists.specs.Members.{keep-member, upTo-member}
-use Rattle.lists.specs.Parts.{keep-former, keep-latter, map-two, head-map, last-map}
+use Rattle.lists.specs.Parts.{keep-former, keep-latter, head-map, last-map}
 use Rattle.lists.specs.Tallies.{keep-same}
 use Rattle.lists.specs.Updates.{map-same}
 use Rattle.channel.specs.Channel.{Channel, width, isNet, stands, hasPin, pinColumns, firstColumn, lastColumn}
@@ -30,7 +30,7 @@ below-columns : (ch : Channel) (n : ℕ)
     → below ch n ≡ map (at (ch .bot)) (keep (overAnother ch n) (upTo (width ch)))
 unfolding drops
 below-columns ch n =
-    map-two {B = Drop} (λ c. record { column = c; lower = at (ch .bot) c }) (λ d. d .lower)
+    map-map {B = Drop} (λ d. d .lower) (λ c. record { column = c; lower = at (ch .bot) c })
     (keep (overAnother ch n) (upTo (width ch)))
 
 over→top : (ch : Channel) (n c : ℕ) → T (overAnother ch n c) → at (ch .top) c ≡ n
@@ -174,10 +174,10 @@ module _ (ch dh : Channel) (even : length (ch .bot) ≡ width ch) where
         ∙ (ap (map (at (both .bot))) (keep-latter (overAnother both (up n)) (width ch) (width dh) elsewhere
         ∙ ap (map on) (keep-same (λ c. overAnother both (up n) (on c)) (overAnother dh n) (upTo (width dh))
         (λ c m. over-second n c (upTo-member _ m .0))))
-        ∙ (map-two on (at (both .bot)) kept-columns
+        ∙ (map-map (at (both .bot)) on kept-columns
         ∙ (map-same (λ c. at (both .bot) (on c)) (λ c. up (at (dh .bot) c)) kept-columns
         (λ c m. bot-second ch dh even c (upTo-member _ (keep-member (overAnother dh n) (upTo (width dh)) m .0) .0))
-        ∙ (sym (map-two (at (dh .bot)) up kept-columns) ∙ ap (map up) (sym (below-columns dh n)))))))
+        ∙ (sym (map-map up (at (dh .bot)) kept-columns) ∙ ap (map up) (sym (below-columns dh n)))))))
       where
         kept-columns : List ℕ
         kept-columns = keep (overAnother dh n) (upTo (width dh))

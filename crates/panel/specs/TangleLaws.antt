@@ -5,12 +5,11 @@ use native.Mathlib.Omega.{arith}
 use native.Mathlib.Decide.{decLt}
 use mathlib.Core.Path.{_≡_, refl, sym, _∙_, ap, subst}
 use mathlib.Core.List.{List, map, List·Memᴰ, Memᴰ·map, Memᴰ·of-map, Memᴰ·append-left, Memᴰ·append-right}
-use mathlib.Core.List.{List·Memᴰ·append-cases}
+use mathlib.Core.List.{map-map, List·Memᴰ·append-cases}
 use mathlib.Core.Logic.{_⊎_, inl, inr, ⊎-elim}
 use lib.ListN.{length}
 use lib.Dec.{T}
 use Rattle.lists.specs.Lists.{greatest}
-use Rattle.lists.specs.Parts.{map-two}
 use Rattle.lists.specs.Updates.{map-same}
 use Rattle.channel.specs.Channel.{Channel, width, isNet, spanning}
 use Rattle.channel.specs.Constraints.{below, depth, chain, Tangled}
@@ -46,7 +45,7 @@ module _ {ch dh : Channel} (fit : Fits ch dh) (esc : Escapes (joined ch dh)) whe
   depth-second zero n net = refl
   depth-second (suc fuel) n net =
       ap (λ (l : List ℕ). suc (greatest l)) (ap (map (depth fuel both)) (below-second ch dh even₁ n net)
-      ∙ (map-two up (depth fuel both) (below dh n)
+      ∙ (map-map (depth fuel both) up (below dh n)
       ∙ map-same (λ b. depth fuel both (up b)) (depth fuel dh) (below dh n)
       (λ b m. depth-second fuel b (below→above dh n b m .1 .lower))))
 

@@ -27,7 +27,7 @@ use Rattle.leftedge.specs.Fill.{filled, stuck}
 use Rattle.leftedge.specs.FillEnds.{filled-or-stuck}
 use Rattle.leftedge.specs.Walk.{ringOf, ringNumbers}
 use Rattle.leftedge.specs.Nets.{netItems, fill, recordOf, records}
-use Rattle.leftedge.specs.NetFill.{nets-filled, stuck-ring, ring-length, tracks≤nets, tracks≤density}
+use Rattle.leftedge.specs.NetFill.{nets-filled, stuck-ring, ring-length, filled-untangled, tracks≤nets, tracks≤density}
 use Rattle.boardfile.specs.Encode.{encode}
 use Rattle.boardfile.specs.Promise.{ReadsBack}
 use Rattle.boardfile.specs.RoundTrip.{read-back, encoded-length}
@@ -55,8 +55,7 @@ module _ (ch : Channel) (esc : Escapes ch) where
   no-layout→refused h = otherwise-refused (λ t ps e. let r = laid-out t ps e in h (draw ch t ps) (r .0) (r .1))
 
   tangled→refused : Tangled ch → Refused ch
-  tangled→refused r =
-      otherwise-refused (λ t ps e. let l = laid-out t ps e in no-ring ch esc (draw ch t ps) (l .0) (l .1) (r .0) (r .1))
+  tangled→refused r = otherwise-refused (λ t ps e. filled-untangled ch esc t ps e r)
 
   module _ (t : ℕ) (ps : List Place) (e : fill ch ≡ filled t ps) where
     density≤tracks : density ch ≤ t
