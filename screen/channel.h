@@ -39,8 +39,11 @@
  *   15  bad table    the first bad entry of a table of blanks, from 1; 0 if it has no entry, or more than 64
  *   16  no stock     the tracks wanted, which no entry of the table holds
  *   18  panel full   the lowest raised number over 511: 512 to 1022
+ *   21  bad span     the net number that was given, whatever it is
+ *   22  already here the net number
+ *   23  not here     the net number
  *
- * The numbers 6 and 17 are not used.
+ * The numbers 6, 17, 19 and 20 are not used.
  */
 #ifndef CABJIRT_CHANNEL_H
 #define CABJIRT_CHANNEL_H
@@ -52,13 +55,15 @@
 extern "C" {
 #endif
 
-/* The lengths that refusal 1 asks for: numbers in a row, a ring and scratch, bytes in a board. Scratch has a number for
- * each pin and piece that there can be: two rows of 512, and 4,095 pieces. */
+/* The lengths that refusal 1 asks for: numbers in a row, a ring and scratch, bytes in a board, words in a draft.
+ * Scratch has a number for each pin and piece that there can be: two rows of 512, and 4,095 pieces. A draft has eight
+ * words for each of 512 columns. */
 enum {
     CABJIRT_ROW = 512,
     CABJIRT_RING = 1022,
     CABJIRT_BOARD = 10240,
-    CABJIRT_SCRATCH = 5119
+    CABJIRT_SCRATCH = 5119,
+    CABJIRT_DRAFT = 4096
 };
 
 /* The upper half of an answer: 0, or the number of a refusal or fault. */
@@ -128,6 +133,31 @@ uint64_t cabjirt_blank(uint32_t tracks);
  * strictly rising; the table is checked at each call, and only read. 0 tracks take the first entry. Value: the entry
  * chosen. Refusals 14 to 16, in that order: over 512 tracks are refused with 14 whatever the table is. */
 uint64_t cabjirt_own_blank(const uint32_t *table, size_t table_length, uint32_t tracks);
+
+/* A draft: the density of a list while nets are added and dropped. It is 4,096 words of 64 bits that the caller keeps,
+ * eight for each column from 1 to 512: column c's are words[(c - 1) * 8] to words[(c - 1) * 8 + 7]. Net n is marked in
+ * a column by bit n % 64 of the column's word n / 64, and the column's count is the number of its marks. Words after
+ * the 4,096 are neither read nor written. A draft begins empty, all words 0, as cabjirt_draft_clear leaves it. After
+ * any calls from there on, each column's count and the greatest are those of the nets that have arrived and not left
+ * since; a refused call has no effect. Every call refuses with 1 where fewer than CABJIRT_DRAFT words are lent. */
+
+/* Takes all nets off the draft. Value 0. Refusal 1. */
+uint64_t cabjirt_draft_clear(uint64_t *words, size_t words_length);
+
+/* A net arrives, with its first and last column. Value 0; its mark is then in each column from the first to the last.
+ * Refusals 1; 21 where the number is not 1 to 511, or not 1 <= first < last <= 512; 22 where the net is on the draft,
+ * that is, marked in any column. */
+uint64_t cabjirt_draft_arrive(uint64_t *words, size_t words_length, uint32_t number, uint32_t first, uint32_t last);
+
+/* A net leaves. Value 0; its mark is then in no column. Refusals 1; 21 where the number is not 1 to 511; 23 where the
+ * net is not on the draft. */
+uint64_t cabjirt_draft_leave(uint64_t *words, size_t words_length, uint32_t number);
+
+/* How many nets there are over a column. Value: the count, 0 for a column outside 1 to 512. Refusal 1. */
+uint64_t cabjirt_draft_count(const uint64_t *words, size_t words_length, uint32_t column);
+
+/* The greatest count of all columns: the density. Value: the greatest. Refusal 1. */
+uint64_t cabjirt_draft_greatest(const uint64_t *words, size_t words_length);
 
 #ifdef __cplusplus
 }

@@ -9,7 +9,7 @@ use mathlib.Core.Logic.{_⊎_, ⊎-elim}
 use mathlib.Core.Bool.{Bool, true, false, cond, _||_}
 use lib.Dec.{T, eqb, eqb→eq, eqb-refl}
 use Rattle.lists.specs.Lists.{keep, each, anyOf, allOf, isIn, from, upTo}
-use Rattle.lists.specs.Tests.{and-left, and-right, and-both, or-cases, or-left, or-right, true→T, eq→T}
+use Rattle.lists.specs.Tests.{T→true, and-left, and-right, and-both, or-cases, or-left, or-right, true→T, eq→T}
 use Rattle.lists.specs.Tests.{same-test, equal?}
 
 module _ {A : Type 0} where
@@ -38,6 +38,14 @@ module _ {A : Type 0} where
       go : (b : Bool) → List·Memᴰ x (keep f ys) → List·Memᴰ x (cond b (y ∷ keep f ys) (keep f ys))
       go true k = List·Memᴰ·tail k
       go false k = k
+
+  -- where every member passes all are kept
+  pub keep-all : (f : A → Bool) (xs : List A) → ((x : A) → List·Memᴰ x xs → T (f x)) → keep f xs ≡ xs
+  unfolding keep
+  keep-all f [] h = refl
+  keep-all f (x ∷ xs) h =
+      let rest = keep-all f xs (λ y m. h y (List·Memᴰ·tail m)) in
+      rw (T→true (f x) (h x (List·Memᴰ·head refl)), rest)
 
   pub any→member : (f : A → Bool) (xs : List A) → T (anyOf f xs) → (x : A) × List·Memᴰ x xs × T (f x)
   unfolding anyOf

@@ -5,10 +5,11 @@ use native.Mathlib.Omega.{arith}
 use mathlib.Core.Path.{_≡_, refl, _∙_, ap, ap₂}
 use mathlib.Core.List.{List, [], _∷_, _++_, map, map-append, List·Memᴰ, List·Memᴰ·head, List·Memᴰ·tail, append-nil}
 use mathlib.Core.Bool.{Bool}
+use lib.ListN.{length}
 use lib.Dec.{T}
 use Rattle.lists.specs.Lists.{keep, each, from, upTo, headOr, lastOr, greatest}
-use Rattle.lists.specs.Ranges.{fails→none-kept, keep-map}
-use Rattle.lists.specs.Tallies.{keep-append}
+use Rattle.lists.specs.Ranges.{fails→none-kept, keep-map, length-keep-map}
+use Rattle.lists.specs.Tallies.{keep-append, length-keep-append}
 
 from-moved : (d a n : ℕ) → from (d + a) n ≡ map (λ k. d + k) (from a n)
 unfolding from
@@ -39,6 +40,17 @@ pub keep-two : (f : ℕ → Bool) (m n : ℕ)
 keep-two f m n =
     ap (keep f) (upTo-two m n) ∙ (keep-append f (upTo m) (map (λ k. m + k) (upTo n))
     ∙ ap (λ (l : List ℕ). keep f (upTo m) ++ l) (keep-map f (λ k. m + k) (upTo n)))
+
+-- of the numbers below m + n those below m are counted, and those from m on
+pub kept-two : (f : ℕ → Bool) (m n : ℕ)
+    → length (keep f (from 0 (m + n))) ≡ length (keep f (from 0 m)) + length (keep (λ k. f (m + k)) (from 0 n))
+kept-two f m n =
+    let front : 0 + m ≡ m + 0 = omega arith in
+    ap (λ (l : List ℕ). length (keep f l)) (from-two 0 m n)
+    ∙ (length-keep-append f (from 0 m) (from (0 + m) n)
+    ∙ ap (λ (k : ℕ). length (keep f (from 0 m)) + k)
+    (ap (λ (l : List ℕ). length (keep f l)) (ap (λ (k : ℕ). from k n) front ∙ from-moved m 0 n)
+    ∙ length-keep-map f (λ k. m + k) (from 0 n)))
 
 -- where nothing is kept of one part, what is kept is what is kept of the other
 pub keep-former : (f : ℕ → Bool) (m n : ℕ) → ((k : ℕ) → List·Memᴰ k (upTo n) → T (f (m + k)) → ⊥)

@@ -2,9 +2,9 @@
 use Prim.Native.Nat.{ℕ, suc, _+_, _≤_, _<_}
 use native.Mathlib.Omega.{arith}
 use mathlib.Core.Path.{_≡_, refl, sym, ap, subst}
-use mathlib.Core.List.{List, [], _∷_, _++_, List·Memᴰ, List·Memᴰ·head, List·Memᴰ·tail, List·Memᴰ·cases-cons}
+use mathlib.Core.List.{List, [], _∷_, _++_, map, List·Memᴰ, List·Memᴰ·head, List·Memᴰ·tail, List·Memᴰ·cases-cons}
 use mathlib.Core.List.{List·Memᴰ·not-nil, List·Memᴰ·append-cases, List·Memᴰ·eq-of-singleton, Memᴰ·cast}
-use mathlib.Core.List.{Memᴰ·append-left, Memᴰ·append-right}
+use mathlib.Core.List.{Memᴰ·append-left, Memᴰ·append-right, Memᴰ·map, Memᴰ·of-map}
 use mathlib.Core.Logic.{_⊎_, ⊎-elim}
 use mathlib.Core.Bool.{Bool, true, false, cond, not}
 use lib.ListN.{length}
@@ -69,6 +69,19 @@ keep-distinct f (x ∷ xs) d = go (f x) (keep-distinct f xs (distinct-tail x xs 
     go true e = distinct-cons x (keep f xs) (λ m. distinct-head x xs d (keep-member f xs m .0)) e
     go false e = e
 
+-- members that are kept have different numbers if all the members do
+pub kept-distinct : {A : Type 0} (f : A → Bool) (g : A → ℕ) (xs : List A) → Distinct (map g xs)
+    → Distinct (map g (keep f xs))
+unfolding keep
+kept-distinct f g [] d = d
+kept-distinct f g (x ∷ xs) d = go (f x) (kept-distinct f g xs (distinct-tail (g x) (map g xs) d))
+  where
+    go : (b : Bool) → Distinct (map g (keep f xs)) → Distinct (map g (cond b (x ∷ keep f xs) (keep f xs)))
+    go true e =
+        distinct-cons (g x) (map g (keep f xs)) (λ m. let r = Memᴰ·of-map g (keep f xs) m in
+        distinct-head (g x) (map g xs) d (Memᴰ·cast (sym (r .2)) (Memᴰ·map g (keep-member f xs (r .1) .0)))) e
+    go false e = e
+
 pub distinct-snoc : (xs : List ℕ) (x : ℕ) → (List·Memᴰ x xs → ⊥) → Distinct xs → Distinct (xs ++ (x ∷ []))
 unfolding Distinct
 distinct-snoc xs x h d =
@@ -106,6 +119,11 @@ pigeonhole (x ∷ xs) ys d h =
     omega arith
 
 -- a list that repeats nothing and has as many members as another of which all are members has all of them
+-- so two lists with the same members, of which neither repeats any, have the same length
+pub same-length : (xs ys : List ℕ) → Distinct xs → Distinct ys → ((x : ℕ) → List·Memᴰ x xs → List·Memᴰ x ys)
+    → ((y : ℕ) → List·Memᴰ y ys → List·Memᴰ y xs) → length xs ≡ length ys
+same-length xs ys d e h k = omega (arith, pigeonhole xs ys d h, pigeonhole ys xs e k)
+
 pub same-members : (xs ys : List ℕ) → Distinct xs → ((x : ℕ) → List·Memᴰ x xs → List·Memᴰ x ys)
     → length ys ≤ length xs → (y : ℕ) → List·Memᴰ y ys → List·Memᴰ y xs
 same-members xs ys d h long y m =

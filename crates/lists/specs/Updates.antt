@@ -7,11 +7,11 @@ use native.Mathlib.Numerals.{add-one}
 use mathlib.Core.Path.{_≡_, refl, sym, _∙_, ap}
 use mathlib.Core.List.{List, [], _∷_, _++_, map, List·Memᴰ, List·Memᴰ·head, List·Memᴰ·tail, append-nil}
 use mathlib.Core.Logic.{⊎-elim}
-use mathlib.Core.Bool.{Bool, cond}
+use mathlib.Core.Bool.{Bool, cond, _||_, or-false, or-assoc}
 use lib.ListN.{length, getD, set}
 use lib.Dec.{T}
 use borrow.Author.Tests.{eq-eqb, ne-eqb}
-use Rattle.lists.specs.Lists.{keep, from, upTo, greatest}
+use Rattle.lists.specs.Lists.{keep, anyOf, from, upTo, greatest}
 use Rattle.lists.specs.Tests.{T→true, fails→false, equal?}
 use Rattle.lists.specs.Tallies.{keep-append}
 use Rattle.lists.specs.Arrays.{from-snoc, numbered-same, set-numbered}
@@ -54,11 +54,12 @@ set-gives f g m j v inside here there =
     (λ apart. rw (ne-eqb k j apart) (there k below apart)) (equal? k j))
 
 -- of a range that is one number longer `keep` keeps that number at the end, or skips it
+upTo-next : (k : ℕ) → upTo (k + 1) ≡ upTo k ++ ((k + 1) ∷ [])
+upTo-next k = ap upTo (add-one k) ∙ (from-snoc 1 k ∙ ap (λ (j : ℕ). upTo k ++ (j ∷ [])) (omega arith))
+
 module _ (f : ℕ → Bool) (k : ℕ) where
   pub keep-next : keep f (upTo (k + 1)) ≡ keep f (upTo k) ++ keep f ((k + 1) ∷ [])
-  keep-next =
-      ap (keep f) (ap upTo (add-one k) ∙ (from-snoc 1 k ∙ ap (λ (j : ℕ). upTo k ++ (j ∷ [])) (omega arith)))
-      ∙ keep-append f (upTo k) ((k + 1) ∷ [])
+  keep-next = ap (keep f) (upTo-next k) ∙ keep-append f (upTo k) ((k + 1) ∷ [])
 
   pub keep-next-passes : T (f (k + 1)) → keep f (upTo (k + 1)) ≡ keep f (upTo k) ++ ((k + 1) ∷ [])
   unfolding keep
@@ -70,8 +71,21 @@ module _ (f : ℕ → Bool) (k : ℕ) where
       keep-next ∙ (ap (λ (b : Bool). keep f (upTo k) ++ cond b ((k + 1) ∷ []) []) (fails→false (f (k + 1)) t)
       ∙ append-nil (keep f (upTo k)))
 
+-- one of them passes if one did before, or that number does
+any-last : (f : ℕ → Bool) (xs : List ℕ) (x : ℕ) → anyOf f (xs ++ (x ∷ [])) ≡ (anyOf f xs || f x)
+unfolding anyOf
+any-last f [] x = or-false (f x)
+any-last f (y ∷ ys) x = ap (λ (b : Bool). f y || b) (any-last f ys x) ∙ sym (or-assoc (f y) (anyOf f ys) (f x))
+
+pub any-next : (f : ℕ → Bool) (k : ℕ) → anyOf f (upTo (k + 1)) ≡ (anyOf f (upTo k) || f (k + 1))
+any-next f k = ap (anyOf f) (upTo-next k) ∙ any-last f (upTo k) (k + 1)
+
 pub greatest-map-last : {A : Type 0} (f : A → ℕ) (xs : List A) (x : A)
     → greatest (map f (xs ++ (x ∷ []))) ≡ max (greatest (map f xs)) (f x)
 unfolding greatest
 greatest-map-last f [] x = omega arith
 greatest-map-last f (y ∷ ys) x = let rest = greatest-map-last f ys x in omega arith
+
+pub greatest-next : (f : ℕ → ℕ) (k : ℕ)
+    → greatest (map f (upTo (k + 1))) ≡ max (greatest (map f (upTo k))) (f (k + 1))
+greatest-next f k = ap (λ (l : List ℕ). greatest (map f l)) (upTo-next k) ∙ greatest-map-last f (upTo k) (k + 1)

@@ -20,10 +20,13 @@ use Rattle.refusal.specs.declared.Refusal.the-variants.{
   BadTable,
   NoStock,
   PanelFull,
+  BadSpan,
+  AlreadyHere,
+  NotHere,
 }
 
 -- the column "No"; 02, Req 04: "Refusal 6 is no longer given"; Req 03: "15, bad table", "16, no stock"; Req 09: "18,
--- panel full"
+-- panel full"; Req 14: "21, bad span", "22, already here", "23, not here"
 abbrev pub numberOf : Refusal → ℕ
 numberOf (ShortTray p) = 1
 numberOf (Garbled p) = 2
@@ -38,6 +41,9 @@ numberOf (NoBlank p) = 14
 numberOf (BadTable p) = 15
 numberOf (NoStock p) = 16
 numberOf (PanelFull p) = 18
+numberOf (BadSpan p) = 21
+numberOf (AlreadyHere p) = 22
+numberOf (NotHere p) = 23
 
 -- the place that the column "Given when; place" names
 abbrev pub placeOf : Refusal → ℕ
@@ -54,6 +60,9 @@ placeOf (NoBlank p) = p
 placeOf (BadTable p) = p
 placeOf (NoStock p) = p
 placeOf (PanelFull p) = p
+placeOf (BadSpan p) = p
+placeOf (AlreadyHere p) = p
+placeOf (NotHere p) = p
 
 -- an answer in 01's numbers: the refusal's or fault's number and its place, or 0 and the values answered
 pub record Told : Type 0 where

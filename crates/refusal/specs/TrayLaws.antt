@@ -16,6 +16,7 @@ use Rattle.refusal.specs.declared.Refusal.{Refusal}
 use Rattle.refusal.specs.declared.Refusal.the-variants.{ShortTray, Garbled, TooWide, Uneven, HighNet}
 use Rattle.refusal.specs.declared.Refusal.the-variants.{Tangled, Torn, BadField, WrongBoard}
 use Rattle.refusal.specs.declared.Refusal.the-variants.{NoBlank, BadTable, NoStock, PanelFull}
+use Rattle.refusal.specs.declared.Refusal.the-variants.{BadSpan, AlreadyHere, NotHere}
 use Rattle.refusal.specs.Refusals.{numberOf}
 use Rattle.refusal.specs.ChainLaws.{refuse-at-first-none, none-refuse-at-first}
 use Rattle.refusal.specs.Trays.{Tray, shortTray}
@@ -60,3 +61,6 @@ refusal-numbered (NoBlank p) = omega arith
 refusal-numbered (BadTable p) = omega arith
 refusal-numbered (NoStock p) = omega arith
 refusal-numbered (PanelFull p) = omega arith
+refusal-numbered (BadSpan p) = omega arith
+refusal-numbered (AlreadyHere p) = omega arith
+refusal-numbered (NotHere p) = omega arith

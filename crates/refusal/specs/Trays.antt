@@ -23,6 +23,10 @@ boardTray = 10240
 abbrev pub scratchTray : ℕ
 scratchTray = 5119
 
+-- 02, Req 14: "Where lent, it is 4,096 words of 64 bits, under refusal 1 in every call"
+abbrev pub draftTray : ℕ
+draftTray = 4096
+
 -- a buffer that the operation writes: the length lent, and the length needed
 pub record Tray : Type 0 where
   pub lent : ℕ

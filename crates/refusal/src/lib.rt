@@ -2,7 +2,7 @@ ghost use mathlib.Core.Path.{_≡_};
 ghost use Rattle.refusal.specs.Refusals.{numberOf, placeOf};
 
 // The lengths that lent buffers must have, asked by refusal 1: a row, the table of net records, the ring, the board
-// file written, and the judge's scratch.
+// file written, the judge's scratch, and the words of a draft.
 pub const ROW_TRAY: usize = 512;
 
 pub const RECORD_TRAY: usize = 511;
@@ -13,8 +13,10 @@ pub const BOARD_TRAY: usize = 10240;
 
 pub const SCRATCH_TRAY: usize = 5119;
 
-// The refusals that an operation may answer, by the shop's words, each with its place. Numbers 6 and 17 are not in use.
-// The judge's faults, numbers 11 to 13, are an enum of their own beside the judge.
+pub const DRAFT_TRAY: usize = 4096;
+
+// The refusals that an operation may answer, by the shop's words, each with its place. Numbers 6, 17, 19 and 20 are not
+// in use. The judge's faults, numbers 11 to 13, are an enum of their own beside the judge.
 pub enum Refusal {
     // 1: a lent buffer is too short; the length needed
     ShortTray(usize),
@@ -42,6 +44,13 @@ pub enum Refusal {
     NoStock(usize),
     // 18: on a panel a raised net number is over 511; the lowest such number
     PanelFull(usize),
+    // 21: a net that comes or goes on a draft has no number of 1 to 511, or its columns do not rise within 1 to 512; the
+    // net number
+    BadSpan(usize),
+    // 22: a net that comes is on the draft; the net number
+    AlreadyHere(usize),
+    // 23: a net that goes is not on the draft; the net number
+    NotHere(usize),
 }
 
 // The number of a refusal in the shop's table.
@@ -62,6 +71,9 @@ pub fn number_of(refusal: Refusal) -> u32
         Refusal::BadTable(_) => 15,
         Refusal::NoStock(_) => 16,
         Refusal::PanelFull(_) => 18,
+        Refusal::BadSpan(_) => 21,
+        Refusal::AlreadyHere(_) => 22,
+        Refusal::NotHere(_) => 23,
     }
 }
 
@@ -83,5 +95,8 @@ pub fn place_of(refusal: Refusal) -> usize
         Refusal::BadTable(place) => place,
         Refusal::NoStock(place) => place,
         Refusal::PanelFull(place) => place,
+        Refusal::BadSpan(place) => place,
+        Refusal::AlreadyHere(place) => place,
+        Refusal::NotHere(place) => place,
     }
 }

@@ -1,0 +1,13 @@
+-- `draft::column::unmark` meets its contract, by those of `word_of` and of the change of one word.
+use borrow.Author.Needs.{needs}
+use Rattle.draft.proofs.column.unmark.Statement.{statement}
+use Rattle.draft.proofs.column.unmark.Tie as tie
+
+returns : tie.Need-returns
+returns c = cc
+
+pub unmark-spec : {M : Type 1} → statement M
+unmark-spec =
+    tie.close
+    (tie.spec (λ c κs. search needs) (λ c. search needs) (λ c. search needs) (λ c κs. search needs) (λ c. search needs)
+    (λ c. search needs) (λ c. search needs) returns)

@@ -1,0 +1,12 @@
+pub mod Marks
+pub mod Answers
+pub mod History
+pub mod Code
+pub mod AnswerLaws
+pub mod BitLaws
+pub mod MarkLaws
+pub mod CountLaws
+pub mod NetLaws
+pub mod HistoryLaws
+pub mod CodeLaws
+pub mod DoneLaws
