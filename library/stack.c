@@ -16,6 +16,7 @@ static size_t text_length;
 static uint32_t top[CABJIRT_ROW], bot[CABJIRT_ROW], ring[CABJIRT_RING], scratch[CABJIRT_SCRATCH];
 static uint8_t board[CABJIRT_BOARD];
 static uint32_t table[ENTRIES];
+static uint64_t words[CABJIRT_DRAFT];
 static uint64_t answer;
 
 /* The chain of 511 nets with a pin in every place but one, the channel with the most pieces. */
@@ -107,6 +108,37 @@ static void *joining(void *unused)
     return unused;
 }
 
+/* A net over all columns comes to an empty draft and goes. */
+static void *clearing(void *unused)
+{
+    answer = cabjirt_draft_clear(words, CABJIRT_DRAFT);
+    return unused;
+}
+
+static void *arriving(void *unused)
+{
+    answer = cabjirt_draft_arrive(words, CABJIRT_DRAFT, NETS, 1, CABJIRT_ROW);
+    return unused;
+}
+
+static void *counting(void *unused)
+{
+    answer = cabjirt_draft_count(words, CABJIRT_DRAFT, CABJIRT_ROW);
+    return unused;
+}
+
+static void *comparing(void *unused)
+{
+    answer = cabjirt_draft_greatest(words, CABJIRT_DRAFT);
+    return unused;
+}
+
+static void *leaving(void *unused)
+{
+    answer = cabjirt_draft_leave(words, CABJIRT_DRAFT, NETS);
+    return unused;
+}
+
 /* How many bytes of its stack a thread changes. */
 static size_t depth(void *(*entry)(void *))
 {
@@ -140,7 +172,12 @@ int main(void)
                    {"cabjirt_looks", looking},
                    {"cabjirt_ceiling", capping},
                    {"cabjirt_fewest_ring", finding},
-                   {"cabjirt_join", joining}};
+                   {"cabjirt_join", joining},
+                   {"cabjirt_draft_clear", clearing},
+                   {"cabjirt_draft_arrive", arriving},
+                   {"cabjirt_draft_count", counting},
+                   {"cabjirt_draft_greatest", comparing},
+                   {"cabjirt_draft_leave", leaving}};
     make_text();
     make_table();
     size_t without = depth(nothing);

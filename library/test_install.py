@@ -154,6 +154,7 @@ class Installed(unittest.TestCase):
     def test_the_order_screen(self):
         done = run(self.prefix / "bin" / "channel", "order", input=L + b"show\n")
         self.assertEqual(done.returncode, 2 if OPTIONS else 0, done.stderr.decode())
+        self.assertTrue(OPTIONS or b"\nDENSITY 0 0\n" in done.stdout)
         self.assertTrue(OPTIONS or b"\n1 pin parked: net 1\n" in done.stdout)
         done = run(self.prefix / "bin" / "channel", "order", input=LONGER + b"show\n")
         self.assertTrue(OPTIONS or b"\nthe fewest wires to move: 2 nets\nnet 1 above net 2 in " in done.stdout)
@@ -172,6 +173,16 @@ class Installed(unittest.TestCase):
         told = re.findall(r"refusal (\d+), place (\d+)$", (ROOT / "docs" / "MANUAL.md").read_text(), re.M)
         self.assertEqual(printed, "".join(f"REFUSED {number} {place}\n" for number, place in told))
 
+    def test_the_draft_that_the_manual_shows(self):
+        told = re.findall(r"^    (cabjirt_\w+\(.*\)) +value (\d+)$", (ROOT / "docs" / "MANUAL.md").read_text(), re.M)
+        self.assertGreater(len(told), 5)
+        source = self.room / "draft.c"
+        source.write_text("#include <cabjirt.h>\n#include <stdio.h>\nstatic uint64_t words[CABJIRT_DRAFT];\n"
+                          "int main(void)\n{\n" +
+                          "".join(f'    printf("%llu\\n", (unsigned long long){call});\n' for call, _ in told) + "}\n")
+        printed = self.built("draft", "cc", "-std=c11", *STRICT, source).decode()
+        self.assertEqual(printed.split(), [value for _, value in told])
+
     def test_the_version(self):
         self.assertEqual(self.flags("--modversion"), (ROOT / "VERSION").read_text().split()[1:2])
 
@@ -183,7 +194,7 @@ class Installed(unittest.TestCase):
         told = dict(re.findall(r"^\| `(cabjirt_\w+)` \| (\d+) KiB \|", (ROOT / "docs" / "MANUAL.md").read_text(), re.M))
         for _, name, used in map(str.split, measured.splitlines()):
             self.assertLessEqual(int(used), 1024 * int(told[name]), name)
-        self.assertEqual(len(told), 10)
+        self.assertEqual(len(told), 15)
 
     def test_the_man_page(self):
         page = self.prefix / "share" / "man" / "man1" / "channel.1"

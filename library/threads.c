@@ -12,7 +12,8 @@ struct work {
     uint32_t top[CABJIRT_ROW], bot[CABJIRT_ROW], ring[CABJIRT_RING], scratch[CABJIRT_SCRATCH];
     uint32_t joined_top[CABJIRT_ROW], joined_bot[CABJIRT_ROW];
     uint8_t board[CABJIRT_BOARD];
-    uint64_t answers[10];
+    uint64_t words[CABJIRT_DRAFT];
+    uint64_t answers[16];
 };
 
 static struct work due[THREADS], works[THREADS];
@@ -45,6 +46,12 @@ static void work_through(struct work *work, size_t which)
     work->answers[9] = cabjirt_join(work->top, width, work->bot, width, (const uint32_t[]){1, 0, 2}, 3,
                                     (const uint32_t[]){0, 2, 1}, 3, work->joined_top, CABJIRT_ROW, work->joined_bot,
                                     CABJIRT_ROW);
+    work->answers[10] = cabjirt_draft_clear(work->words, CABJIRT_DRAFT);
+    work->answers[11] = cabjirt_draft_arrive(work->words, CABJIRT_DRAFT, 1, 1, (uint32_t)width);
+    work->answers[12] = cabjirt_draft_arrive(work->words, CABJIRT_DRAFT, 2, (uint32_t)which + 1, 500);
+    work->answers[13] = cabjirt_draft_leave(work->words, CABJIRT_DRAFT, 1);
+    work->answers[14] = cabjirt_draft_count(work->words, CABJIRT_DRAFT, (uint32_t)width);
+    work->answers[15] = cabjirt_draft_greatest(work->words, CABJIRT_DRAFT);
 }
 
 static void *repeat(void *number)
@@ -71,7 +78,8 @@ int main(void)
             return 2;
     for (size_t i = 0; i < THREADS; i++)
         all += same[i];
-    printf("%d rounds the same, %u tracks judged, a ring of %u nets, %u columns joined\n", all,
-           cabjirt_value(due[0].answers[3]), cabjirt_value(due[0].answers[8]), cabjirt_value(due[0].answers[9]));
+    printf("%d rounds the same, %u tracks judged, a ring of %u nets, %u columns joined, density %u\n", all,
+           cabjirt_value(due[0].answers[3]), cabjirt_value(due[0].answers[8]), cabjirt_value(due[0].answers[9]),
+           cabjirt_value(due[0].answers[15]));
     return all == THREADS * ROUNDS ? 0 : 1;
 }

@@ -1,5 +1,5 @@
 /* answer.h: what the shop answers: to a pin list, and to a board file against it. Only here the entries of channel.h
- * are called. */
+ * are called, but for those of a draft. */
 #ifndef CABJIRT_ANSWER_H
 #define CABJIRT_ANSWER_H
 

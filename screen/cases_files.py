@@ -4,7 +4,7 @@ import os
 from order_drawing import A, B, damaged, drawing, text_of, written
 from order_keys import (BOT_MARKS, DRAWING, ENTER, ERASE, ESCAPE, JUDGE, KEYS, LOAD, MESSAGE, MORE, ORDER, PITCH, QUIT,
                         SAVE, SAVE_PINS, TAB, TITLE, TOP_MARKS, UNDO, VERDICT, columns, expect_message, expect_rows,
-                        leave, paste)
+                        in_sight, leave, paste)
 from pseudo_terminal import Session, check
 
 NOT_SAVED = "List not saved. "
@@ -14,7 +14,7 @@ def saving(s, folder):
     """Loads example B, saves its board over nothing, and over a file only if told so."""
     s.type(LOAD + "b.pins" + ENTER)
     s.expect_line("B: summary", VERDICT, "width 7  tracks 5  blank 8  density 4  chain 3  pieces 30")
-    s.expect_lines("B: drawing", DRAWING, drawing(B, written(B), PITCH)[1:])
+    s.expect_lines("B: drawing", DRAWING, in_sight(drawing(B, written(B), PITCH)[1:]))
     due = written(B)
     s.type(SAVE + "b.board" + ENTER)
     s.expect_start("saved", MESSAGE, "saved 124 bytes as b.board")
@@ -112,7 +112,8 @@ def judging(s, folder):
     s.expect_start("J: what to do", MORE + 1, "What to do: take the piece out, or write the board again")
     s.expect("J: piece marked in the drawing", lambda: s.grid.cells_marked(DRAWING + 2), [16, 17, 18, 19, 20])
     judge("b.board", "REFUSED 10 7  wrong board")
-    s.expect_lines("a wider board is drawn without pins", DRAWING, drawing(([0] * 7, [0] * 7), written(B), PITCH)[1:])
+    s.expect_lines("a wider board is drawn without pins", DRAWING,
+                   in_sight(drawing(([0] * 7, [0] * 7), written(B), PITCH)[1:]))
     (folder / "torn").write_bytes(boards["good"][:-1])
     judge("torn", "REFUSED 8 48  torn")
     (folder / "long").write_bytes(bytes(65537))

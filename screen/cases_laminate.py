@@ -5,7 +5,7 @@ from cases_window import has_utf8
 from order_drawing import A, B, damaged, drawing, text_of, written
 from order_keys import (DRAWING, END, ENTER, ERASE, ESCAPE, HELP, JUDGE, KEYS, LAMINATE, LEFT, LOAD, MESSAGE, ORDER,
                         PITCH, REDO, SAVE, TAB, TITLE, TURN, UNDO, VERDICT, expect_cursor, expect_message, expect_rows,
-                        leave, paste)
+                        in_sight, leave, paste)
 from order_laminate import (TEXT_LINES, choice, explained, give, load_laminate, name_line, not_taken, summary,
                             text_lines)
 from order_looks import bar_of, beside, looks_of
@@ -105,7 +105,7 @@ def refused(s, folder):
         s.expect_start(f"{what}: explained", VERDICT + 1, why)
         check(f"{what}: the list is good, the table is not", [s.grid.cells[y][0][1] for y in (VERDICT, VERDICT + 1)],
               [GOOD, BAD])
-        s.expect_lines(f"{what}: drawing", DRAWING, drawing(B, written(B), PITCH)[1:])
+        s.expect_lines(f"{what}: drawing", DRAWING, in_sight(drawing(B, written(B), PITCH)[1:]))
     s.expect_line("no stock: what to do", VERDICT + 2, explained(16, 5)[1])
     s.type(SAVE + "b.board" + ENTER)
     expect_message(s, "the board is saved", "saved 124 bytes as b.board")

@@ -3,6 +3,7 @@ import random
 
 from cases_laminate import OWN, REFUSED, STRAY
 from cases_pipe import piped
+from order_density import piped_line
 from order_drawing import A, B, channel, damaged, drawing, text_of
 from order_laminate import MOST, choice, entries, explained, name_line, not_taken, own_words, summary
 from order_looks import bar_of
@@ -19,8 +20,8 @@ def shown(rows, table, name="own"):
     """What `show` is due to print of a list that has a board."""
     chosen = choice(table, channel.fill(*rows)[0])
     why = explained(*chosen) if isinstance(chosen, tuple) else ()
-    return [*text_of(rows).decode().splitlines(), summary(rows, table), name_line(table, name), *why, bar_of(rows),
-            *drawing(rows, channel.board(text_of(rows)))]
+    return [*text_of(rows).decode().splitlines(), piped_line(rows), summary(rows, table), name_line(table, name), *why,
+            bar_of(rows), *drawing(rows, channel.board(text_of(rows)))]
 
 
 def laminate_command(folder, table, name="own"):
@@ -47,13 +48,13 @@ def dropping(folder):
     plain = piped(folder, text_of(A) + b"show\n")[0]
     out, err, status = piped(folder, text_of(A) + command + b"laminate\r\nshow\n")
     check("dropped", (out, err, status), (["loaded own (5 entries)", "dropped the laminate own", *plain], [], 0))
-    check("dropped: plain", plain[2], summary(A))
+    check("dropped: plain", plain[3], summary(A))
     check("none to drop", piped(folder, b"laminate\n"), ([], ["order: line 1: there is no laminate to drop"], 1))
     out, _, status = piped(folder, command + laminate_command(folder, [9], "other") + text_of(A) + b"show\n")
     check("another", (out[2:], status), (shown(A, [9], "other"), 0))
     (folder / "own").write_bytes(b"1 2 6")
     out, _, _ = piped(folder, command + text_of(B) + b"show\n")
-    check("the file is read when it is loaded", out[3], summary(B, [1, 2, 6]))
+    check("the file is read when it is loaded", out[4], summary(B, [1, 2, 6]))
 
 
 def follows_the_list(folder):
@@ -85,7 +86,7 @@ def forms(folder):
     for text, table in FORMS.items():
         (folder / "form").write_bytes(text)
         out, err, _ = piped(folder, b"laminate form\n" + text_of(A) + b"show\n")
-        check(f"{text[:30]}: taken", (out[0], out[3], err), (f"loaded form ({entries(table)})", summary(A, table), []))
+        check(f"{text[:30]}: taken", (out[0], out[4], err), (f"loaded form ({entries(table)})", summary(A, table), []))
     (folder / "form").write_bytes(b" " * 65536 + b"8")
     check("one byte more", piped(folder, b"laminate form\n"), (
         [], ["order: line 1: not loaded: over 65536 bytes; form is no table"], 1))
@@ -108,7 +109,7 @@ def mistakes(folder):
     every_byte(folder)
     (folder / "odd\x1b[31m").write_bytes(b"2")
     out, _, _ = piped(folder, b"laminate odd\x1b[31m\n" + text_of(A) + b"show\nlaminate\n")
-    check("a name with control characters", (out[0], out[4], out[-1]), (
+    check("a name with control characters", (out[0], out[5], out[-1]), (
         "loaded odd?[31m (1 entry)", "own laminate of 1 entry: odd?[31m", "dropped the laminate odd?[31m"))
 
 

@@ -106,8 +106,8 @@ def lines_of_commands(folder):
     """A command may end in CR LF, and a row keeps that end."""
     out, err, status = piped(folder, b"TOP   1   1\r\n\r\nBOT   0   0\nsave-pins mixed\r\nshow\r\nquit\r\nshow\n")
     check("commands that end in CR LF: complaints, status", (err, status), ([], 0))
-    check("commands that end in CR LF", out[:4], [
-        f"saved 25 bytes as mixed{TOP_ONLY}", "TOP   1   1", "BOT   0   0",
+    check("commands that end in CR LF", out[:5], [
+        f"saved 25 bytes as mixed{TOP_ONLY}", "TOP   1   1", "BOT   0   0", "DENSITY 1 1",
         "width 2  tracks 1  blank 8  density 1  chain 1  pieces 5"])
     check("quit", len([line for line in out if line.startswith("width")]), 1)
     check("the rows' ends", (folder / "mixed").read_bytes(), b"TOP   1   1\r\nBOT   0   0\n")
@@ -115,7 +115,8 @@ def lines_of_commands(folder):
     check("a file that is named so", out[0], f"loaded mixed{TOP_ONLY}")
     check("rows that are set anew", (folder / "other").read_bytes(), b"TOP 1 1\nBOT 0 0\r\n")
     out, err, status = piped(folder, b"TOP 1 1\r\r\nBOT 0 0\nshow\nshow\r\r\n")
-    check("two carriage returns", (out[:3], out[3][:11]), (["        v", "TOP 1 1?", "BOT 0 0"], "REFUSED 2 8"))
+    check("two carriage returns", (out[:4], out[4][:11]), (["        v", "TOP 1 1?", "BOT 0 0", "DENSITY 0 0"],
+                                                           "REFUSED 2 8"))
     check("two after a command", (err, status), (["order: line 4: this is no command (try help): show?"], 1))
     full = b"TOP " + b" " * 65535 + b"1"
     check("a full row", piped(folder, full + b"\n" + full + b"\r\n")[1:], ([], 0))

@@ -8,7 +8,7 @@ from cases_typing import ONLY_DIGITS
 from cases_window import has_utf8
 from order_drawing import A, B, channel, damaged, drawing, text_of, written
 from order_keys import (BOT_LINE, CLEAR, DOWN, DRAWING, ENTER, ESCAPE, HELP, JUDGE, KEYS, LOAD, MESSAGE, MORE, ORDER,
-                        PITCH, QUIT, RIGHT, SAVE, SAVE_PINS, TITLE, UP, VERDICT, expect_cursor, fill, leave)
+                        PITCH, QUIT, RIGHT, SAVE, SAVE_PINS, TITLE, UP, VERDICT, expect_cursor, fill, in_sight, leave)
 from order_looks import PIPED, bar, bar_of, beside, looks_of
 from pseudo_terminal import Session, check
 
@@ -68,7 +68,7 @@ def examples(s):
     s.expect_line("B: 47 of 55 cells", MESSAGE, "looks 18 of at most 21 [" + "#" * 47 + " " * 8 + "]")
     s.expect("B: the filled cells are bold", lambda: bold_cells(s), list(range(24, 71)))
     check("B: no other style", {style for _, style in s.grid.cells[MESSAGE]}, {(), (BOLD,)})
-    s.expect_lines("B: the whole drawing over it", DRAWING, drawing(B, written(B), PITCH)[1:])
+    s.expect_lines("B: the drawing over it", DRAWING, in_sight(drawing(B, written(B), PITCH)[1:]))
 
 
 def other_lists(s):
@@ -119,8 +119,8 @@ def windows(s):
     for rows, across in (SMALLEST, (14, 300), (24, 80), (30, 132), (50, 41)):
         s.resize(rows, across)
         s.expect_line(f"{across} by {rows}: bar", rows - 2, bar(18, 21, across))
-        lines = due if rows >= 24 else [*due[:2], due[-1]]
-        s.expect_lines(f"{across} by {rows}: drawing", DRAWING, [line[:across - 4].rstrip() for line in lines])
+        s.expect_lines(f"{across} by {rows}: drawing", DRAWING,
+                       [line[:across - 4].rstrip() for line in in_sight(due, rows)])
         s.type("x")
         s.expect_line(f"{across} by {rows}: message", rows - 2, beside(ONLY_DIGITS, 18, 21, across))
         s.type(LOAD)
@@ -132,8 +132,7 @@ def windows(s):
     typed(s, C)
     s.resize(*SMALLEST)
     s.expect_lines("the ring in the smallest window", DRAWING, [
-        "  net 1 above net 2 in column 1", "  net 2 above net 1 in column 2",
-        "  the fewest wires to move: 2 nets, the", bar(2, 3, 40)])
+        "  net 1 above net 2 in column 1", "  net 2 above net 1 in column 2", bar(2, 3, 40)])
     s.resize(24, 80)
     s.type("x")
     s.expect_line("a tangled list and a message", MESSAGE, beside(ONLY_DIGITS, 2, 3, 80))

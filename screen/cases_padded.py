@@ -4,9 +4,9 @@ import random
 from cases_pipe import piped
 from cases_window import words_at
 from order_drawing import A, B, damaged, drawing, text_of, written
-from order_keys import (BOT_LINE, BOT_MARKS, CLEAR, DELETE, DOWN, DRAWING, END, ENTER, ERASE, GUTTER, HOME, JUDGE,
-                        KEYS, LEFT, MARK, MORE, ORDER, PITCH, RIGHT, RULER, TITLE, TOP_LINE, TOP_MARKS, UNDO, UP,
-                        VERDICT, columns, expect_cursor, expect_rows, fill, leave, paste)
+from order_keys import (BOT_LINE, BOT_MARKS, CLEAR, DELETE, DOWN, DRAWING, END, ENTER, ERASE, GUTTER, HOME, JUDGE, KEYS,
+                        LEFT, MARK, MESSAGE, MORE, ORDER, PITCH, RIGHT, RULER, TITLE, TOP_LINE, TOP_MARKS, UNDO, UP,
+                        VERDICT, columns, expect_cursor, expect_rows, fill, in_sight, leave, paste)
 from order_lists import BOT_ONLY, CR_LF, ENDS, TOP_ONLY, expect_saved, load, padded
 from pseudo_terminal import Session, check
 
@@ -16,7 +16,7 @@ def columns_of_four(s, folder):
     load(s, folder, padded(B), CR_LF)
     expect_rows(s, "padded: rows", *B)
     s.expect_line("padded: summary", VERDICT, "width 7  tracks 5  blank 8  density 4  chain 3  pieces 30")
-    s.expect_lines("padded: drawing", DRAWING, drawing(B, written(B), PITCH)[1:])
+    s.expect_lines("padded: drawing", DRAWING, in_sight(drawing(B, written(B), PITCH)[1:]))
     check("padded: nothing is left to save", "not saved" in s.grid.line(TITLE), False)
     expect_saved(s, folder, "padded: the same bytes", padded(B), CR_LF)
 
@@ -56,13 +56,13 @@ def wide_columns(s, folder):
     """A column is as wide as its pads need, in the rows and in the drawing."""
     load(s, folder, padded(B, 6, b"\n"))
     s.expect_line("columns of six have two fours", TOP_LINE, "TOP  " + "".join(f"{n:8}" for n in B[0]))
-    s.expect_lines("the drawing too", DRAWING, drawing(B, written(B), 8)[1:])
+    s.expect_lines("the drawing too", DRAWING, in_sight(drawing(B, written(B), 8)[1:]))
     s.expect_line("and the ruler", RULER, drawing(B, written(B), 8)[0])
     load(s, folder, b"TOP 0 1      6 1 2 3 5\nBOT 6 3 5 4 0         2 4\r\n", BOT_ONLY)
     ends = [GUTTER + end for end in (4, 8, 16, 20, 24, 36, 40)]
     for y, due in ((RULER, range(1, 8)), (TOP_LINE, B[0]), (BOT_LINE, B[1])):
         s.expect("columns of different width", lambda y=y: words_at(s.grid.line(y)), dict(zip(ends, due)))
-    for y, due in ((DRAWING, B[0]), (DRAWING + 12, B[1])):
+    for y, due in ((DRAWING, B[0]), (MESSAGE - 1, B[1])):
         s.expect("each pin over its copper", lambda y=y: words_at(s.grid.line(y)),
                  {end: net for end, net in zip(ends, due) if net})
     s.expect_line("a trunk over a wide column", DRAWING + 2, "  5         o-------+---o   |           |   |")

@@ -127,18 +127,18 @@ def helping(s):
 def through_pipes(folder):
     out, err, status = piped(folder, text_of(OPPOSITE) + b"show\n")
     check("piped, opposite a net", out, [
-        "         p", "TOP 1 1 30", "BOT 2 0 0", "    p",
+        "         p", "TOP 1 1 30", "BOT 2 0 0", "    p", "DENSITY 1 1 0",
         "width 3  tracks 1  blank 8  density 1  chain 1  pieces 5", bar_of(OPPOSITE), "2 pins parked: nets 2, 30",
         *drawing(OPPOSITE, board_of(OPPOSITE))])
     check("piped, opposite a net: complaints, status", (err, status), ([], 0))
     out, _, status = piped(folder, text_of(L) + b"show\n")
-    check("piped L", out[:6], ["    p", "TOP 1 0", "BOT 0 0",
+    check("piped L", out[:7], ["    p", "TOP 1 0", "BOT 0 0", "DENSITY 0 0",
                                "width 2  tracks 0  blank 8  density 0  chain 0  pieces 0", bar_of(L),
                                "1 pin parked: net 1"])
     check("piped L: status", status, 0)
     out, _, status = piped(folder, text_of(TANGLED) + b"show\n")
     check("piped, tangled: signs", (out[0], out[3]), ("      v v     p", "      ^ ^    p"))
-    check("piped, tangled: parked pins", out[5:7], [bar_of(TANGLED), "2 pins parked: nets 8, 41"])
+    check("piped, tangled: parked pins", out[6:8], [bar_of(TANGLED), "2 pins parked: nets 8, 41"])
     check("piped, tangled: status", status, 1)
     out, _, status = piped(folder, text_of(L) + b"save l.board\nreplace l.board\nsave-pins l.pins\njudge l.board\n")
     check("piped: told of a board that is saved", out[:5], ["saved 4 bytes as l.board", "1 pin parked: net 1"] * 2 +

@@ -27,18 +27,19 @@ def piped(folder, commands, *arguments, file_size=None):
 def examples(folder):
     a, b = text_of(A), text_of(B)
     out, err, status = piped(folder, a + b"show\n")
-    check("piped A", out, a.decode().splitlines() + ["width 4  tracks 2  blank 8  density 2  chain 2  pieces 11"] +
+    check("piped A", out, a.decode().splitlines() +
+          ["DENSITY 1 2 1 0", "width 4  tracks 2  blank 8  density 2  chain 2  pieces 11"] +
           [bar_of(A)] + drawing(A, channel.board(a)))
     check("piped A: complaints, status", (err, status), ([], 0))
     out, err, status = piped(folder, b"TOP 1 2\nBOT 2 1\nshow\n")
-    check("piped C", out[:4] + [out[4][:11], out[5], out[6][:12]] + out[7:], [
-        "    v v", "TOP 1 2", "BOT 2 1", "    ^ ^", "REFUSED 7 2", bar_of(([1, 2], [2, 1])), "What to do: ",
-        "net 1 above net 2 in column 1", "net 2 above net 1 in column 2",
+    check("piped C", out[:5] + [out[5][:11], out[6], out[7][:12]] + out[8:], [
+        "    v v", "TOP 1 2", "BOT 2 1", "    ^ ^", "DENSITY 2 2", "REFUSED 7 2", bar_of(([1, 2], [2, 1])),
+        "What to do: ", "net 1 above net 2 in column 1", "net 2 above net 1 in column 2",
         "the fewest wires to move: 2 nets, the same ring"])
     check("piped C: status", status, 1)
     (folder / "b.pins").write_bytes(b)
     out, err, status = piped(folder, b"load b.pins\nsave new\nsave-pins new.pins\nshow\nquit\nshow\n")
-    check("piped B", out[5:], ["width 7  tracks 5  blank 8  density 4  chain 3  pieces 30"] +
+    check("piped B", out[5:], ["DENSITY 1 3 4 4 4 4 2", "width 7  tracks 5  blank 8  density 4  chain 3  pieces 30"] +
           [bar_of(B)] + drawing(B, channel.board(b)))
     check("piped B: the files saved", [(folder / name).read_bytes() for name in ("new", "new.pins")],
           [channel.board(b), b])

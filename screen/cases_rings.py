@@ -6,6 +6,7 @@ import textwrap
 
 from cases_build import BUILD, build
 from cases_pipe import piped, table_of_refusals
+from order_density import piped_line
 from order_drawing import A, channel, text_of
 from order_keys import (BOT_LINE, BOT_MARKS, DRAWING, ENTER, ESCAPE, GUTTER, HELP, HOME, JUDGE, KEYS, MARK, ORDER,
                         PAGE_DOWN, PITCH, SCROLL_DOWN, SCROLL_LEFT, SCROLL_UP, TOP_LINE, TOP_MARKS, TURN, UP, VERDICT,
@@ -130,23 +131,23 @@ def windows(s):
         s.expect_lines(f"{across} cells: rings", DRAWING, lines_below(LONGER, across) + [""])
     s.resize(*SMALLEST)
     due = lines_below(LONGER, 40)
-    s.expect_lines("the smallest window", DRAWING, due[:3])
+    s.expect_lines("the smallest window", DRAWING, due[:2])
     s.type(SCROLL_DOWN * 4)
-    s.expect_lines("scrolled to the fewest ring", DRAWING, due[4:7])
+    s.expect_lines("scrolled to the fewest ring", DRAWING, due[4:6])
     check("its heading", due[4], f"  {FEWEST}: 2 nets")
     s.type(PAGE_DOWN * 20)
     s.expect_line("scrolled to the end of what to do", 11, "  other there.")
     s.resize(24, 80)
     typed(s, LONG)
     s.type(SCROLL_UP * 20)
-    s.expect_lines("40 nets and 2", DRAWING, lines_below(LONG)[:13])
+    s.expect_lines("40 nets and 2", DRAWING, lines_below(LONG)[:12])
     s.expect_line("40 nets and 2: the last marks", TOP_MARKS, "    <" + marks_line(LONG, 0, "v")[GUTTER + 24 * PITCH:])
     s.type(SCROLL_LEFT * 10)
     s.expect_start("40 nets and 2: the marks", TOP_MARKS, "        F   v   v")
     s.expect("40 nets and 2: they go on to the right", lambda: s.grid.line(TOP_MARKS)[-1:], ">")
-    s.type(SCROLL_DOWN * 30)
+    s.type(SCROLL_DOWN * 31)
     s.expect_lines("40 nets and 2: the end of the walk's", DRAWING,
-                   lines_below(LONG)[30:] + ["", *(f"  {line}" for line in textwrap.wrap(remedy(), 78))])
+                   lines_below(LONG)[31:] + ["", *(f"  {line}" for line in textwrap.wrap(remedy(), 78))])
 
 
 def unmarked(s, folder):
@@ -187,7 +188,7 @@ def shown(rows):
     walk, _ = rings_of(rows)
     meaning = table_of_refusals()[7][1].replace("%p", str(len(walk)))
     return [marks_piped(rows, 0, "v"), *text_of(rows).decode().splitlines(), marks_piped(rows, 1, "^"),
-            f"REFUSED 7 {len(walk)}  {meaning}", remedy(), *pair_words(walk), *told(rows)]
+            piped_line(rows), f"REFUSED 7 {len(walk)}  {meaning}", remedy(), *pair_words(walk), *told(rows)]
 
 
 def without_bar(lines):

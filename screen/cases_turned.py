@@ -3,10 +3,11 @@ import random
 
 from cases_looks import C, typed
 from cases_pipe import piped
+from order_density import piped_line
 from order_drawing import A, B, channel, damaged, drawing, text_of, written
 from order_keys import (BOT_LINE, BOT_MARKS, CLEAR, DOWN, DRAWING, END, ENTER, ESCAPE, HELP, HOME, JUDGE, KEYS, LEFT,
-                        LOAD, MESSAGE, ORDER, PITCH, REDO, RIGHT, SAVE_PINS, TITLE, TOP_LINE, TOP_MARKS, TURN, UNDO,
-                        UP, VERDICT, columns, expect_cursor, expect_message, expect_rows, leave)
+                        LOAD, MESSAGE, ORDER, PITCH, REDO, RIGHT, SAVE_PINS, TITLE, TOP_LINE, TOP_MARKS, TURN, UNDO, UP,
+                        VERDICT, columns, expect_cursor, expect_message, expect_rows, in_sight, leave)
 from order_lists import BOT_ONLY, CR_LF, ENDS, TOP_ONLY, expect_saved, load, padded
 from order_looks import bar_of, beside, looks_of
 from pseudo_terminal import Session, check
@@ -44,7 +45,7 @@ def told_of(rows):
 def expect_board(s, what, rows, summary):
     expect_rows(s, f"{what}: rows", *rows)
     s.expect_line(f"{what}: summary", VERDICT, summary)
-    s.expect_lines(f"{what}: drawing", DRAWING, drawing(rows, written(rows), PITCH)[1:])
+    s.expect_lines(f"{what}: drawing", DRAWING, in_sight(drawing(rows, written(rows), PITCH)[1:]))
 
 
 def both_keys(s):
@@ -248,16 +249,16 @@ def through_pipes(folder):
     """The message is the answer, as for `load`; the list is shown and judged where that is asked for."""
     out, err, status = piped(folder, text_of(UNLIKE) + b"turn\nshow\nturn\r\n")
     check("piped", out, ["turned over: 2 tracks, 3 before", *text_of(UNLIKE[::-1]).decode().splitlines(),
-                         "width 5  tracks 2  blank 8  density 2  chain 2  pieces 15", bar_of(UNLIKE[::-1]),
-                         *drawing(UNLIKE[::-1], channel.board(text_of(UNLIKE[::-1]))),
+                         piped_line(UNLIKE), "width 5  tracks 2  blank 8  density 2  chain 2  pieces 15",
+                         bar_of(UNLIKE[::-1]), *drawing(UNLIKE[::-1], channel.board(text_of(UNLIKE[::-1]))),
                          "turned over: 3 tracks, 2 before"])
     check("piped: complaints, status", (err, status), ([], 0))
     check("piped A", piped(folder, text_of(A) + b"turn\n"), (["turned over: 2 tracks, as before"], [], 0))
     for rows in (b"TOP 1 2\nBOT 2 1\n", b"TOP 1 1\nBOT 0\n", b"TOP 1x\nBOT 0\n", b"TOP 512\nBOT 0\n", b"BOT 7\n"):
         check(f"piped {rows}", piped(folder, rows + b"turn\n"), (["turned over"], [], 0))
     out, _, status = piped(folder, b"TOP 1 2\nBOT 2 1\nturn\nshow\n")
-    check("piped C: shown", (out[:4], out[5][:11], status), (["turned over", "    v v", "TOP 2 1", "BOT 1 2"],
-                                                             "REFUSED 7 2", 1))
+    check("piped C: shown", (out[:4], out[5], out[6][:11], status),
+          (["turned over", "    v v", "TOP 2 1", "BOT 1 2"], "DENSITY 2 2", "REFUSED 7 2", 1))
     check("piped: nothing to turn", piped(folder, b"turn\n"), ([], [f"order: line 1: {NOTHING}"], 1))
     for line in ("turn over", "Turn", "turned"):
         check(f"piped: {line}", piped(folder, text_of(A) + line.encode() + b"\n"),

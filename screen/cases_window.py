@@ -10,7 +10,7 @@ from pathlib import Path
 from order_drawing import A, B, drawing, text_of, written
 from order_keys import (BOT_LINE, CLEAR, DOWN, DRAWING, END, ENTER, ERASE, HOME, KEYS, LOAD, MARK, MESSAGE, ORDER,
                         PAGE_DOWN, PITCH, QUIT, RIGHT, RULER, SCROLL_DOWN, SCROLL_LEFT, SCROLL_RIGHT, SCROLL_UP,
-                        TOP_LINE, TOP_MARKS, UP, VERDICT, expect_rows, fill, leave)
+                        TOP_LINE, TOP_MARKS, UP, VERDICT, expect_rows, fill, in_sight, leave)
 from pseudo_terminal import PATIENCE, Session, check
 
 JOB_SHELL = Path(__file__).resolve().parent / "job_shell.py"
@@ -182,7 +182,8 @@ def unicode_glyphs(folder):
         return
     s = Session(ORDER, "b.pins", folder=folder, LC_ALL="C.UTF-8")
     table = str.maketrans("-|+o", "\u2500\u2502\u253c\u25cf")
-    s.expect_lines("B in UTF-8", DRAWING, [line.translate(table) for line in drawing(B, written(B), PITCH)[1:]])
+    due = in_sight(drawing(B, written(B), PITCH)[1:])
+    s.expect_lines("B in UTF-8", DRAWING, [line.translate(table) for line in due])
     s.type(LOAD + "\u00e9")
     s.expect_line("a name in UTF-8", MESSAGE, "Load the pin list from file: \u00e9")
     s.type(ERASE + "a.pins" + ENTER)

@@ -21,27 +21,27 @@
  * neither in density nor in chain. No entry tells which pins are parked: a caller who wants to know counts the numbers.
  * To cabjirt_judge a parked pin is a net of its own: copper joined to it alone is good, joined to another pin a short.
  *
- *   No  word         place
- *    1  short tray   the length needed
- *    2  garbled      the length of the longest start that some pin list shares: the offset of the byte that does not
- *                    belong
- *    3  too wide     513
- *    4  uneven       the shorter length plus 1
- *    5  high net     the lowest pin position with a number over 511
- *    7  tangled      the number of pairs (net, column) at the front of the ring
- *    8  torn         the length due
- *    9  bad field    0 for the header, else the number of the lowest bad piece
- *   10  wrong board  the board file's width
- *   11  short        the lowest pin position joined to an earlier pin of another net
- *   12  open         the lowest pin position not joined to its net's first pin
- *   13  floating     the number of the lowest piece joined to no pin
- *   14  no blank     the tracks wanted
- *   15  bad table    the first bad entry of a table of blanks, from 1; 0 if it has no entry, or more than 64
- *   16  no stock     the tracks wanted, which no entry of the table holds
- *   18  panel full   the lowest raised number over 511: 512 to 1022
- *   21  bad span     the net number that was given, whatever it is
- *   22  already here the net number
- *   23  not here     the net number
+ *   No  word          place
+ *    1  short tray    the length needed
+ *    2  garbled       the length of the longest start that some pin list shares: the offset of the byte that does not
+ *                     belong
+ *    3  too wide      513
+ *    4  uneven        the shorter length plus 1
+ *    5  high net      the lowest pin position with a number over 511
+ *    7  tangled       the number of pairs (net, column) at the front of the ring
+ *    8  torn          the length due
+ *    9  bad field     0 for the header, else the number of the lowest bad piece
+ *   10  wrong board   the board file's width
+ *   11  short         the lowest pin position joined to an earlier pin of another net
+ *   12  open          the lowest pin position not joined to its net's first pin
+ *   13  floating      the number of the lowest piece joined to no pin
+ *   14  no blank      the tracks wanted
+ *   15  bad table     the first bad entry of a table of blanks, from 1; 0 if it has no entry, or more than 64
+ *   16  no stock      the tracks wanted, which no entry of the table holds
+ *   18  panel full    the lowest raised number over 511: 512 to 1022
+ *   21  bad span      the net number that was given, whatever it is
+ *   22  already here  the net number
+ *   23  not here      the net number
  *
  * The numbers 6, 17, 19 and 20 are not used.
  */

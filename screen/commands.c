@@ -35,10 +35,17 @@ static void choose_own(struct order *order)
     refusal_explain(&order->pins, &order->answer, &own->verdict, &own->finding);
 }
 
+void order_begin(struct order *order)
+{
+    draft_begin(&order->draft);
+    order_changed(order);
+}
+
 void order_changed(struct order *order)
 {
     order->judged.shown = false;
     answer_pins(&order->pins, &order->answer);
+    draft_follow(&order->draft, &order->pins);
     choose_own(order);
     parked_find(&order->pins, &order->answer, &order->parked);
     refusal_explain(&order->pins, &order->answer, &order->answer.verdict, &order->finding);

@@ -5,6 +5,7 @@
 
 #include "answer.h"
 #include "board_view.h"
+#include "draft.h"
 #include "files.h"
 #include "laminate.h"
 #include "looks_bar.h"
@@ -39,12 +40,17 @@ struct order {
     struct laminate laminate;
     struct own_blank own;
     struct parked parked;
+    struct draft draft;
     struct judged judged;
     struct finding finding;     /* of the verdict that is shown: the judge's, or else the router's */
     char message[MESSAGE_MOST]; /* what came of the last command, in one line */
 };
 
-/* Answers the list anew, and chooses from the laminate; to be called after every change of the list. */
+/* Begins an order, all of it zero, with an empty list. */
+void order_begin(struct order *order);
+
+/* Answers the list anew, chooses from the laminate, and lets the draft follow; to be called after every change of the
+ * list. */
 void order_changed(struct order *order);
 
 /* Whether the list was changed since a file had it. */

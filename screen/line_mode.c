@@ -25,6 +25,7 @@ static const char help[] =
     "Lines may end in CR LF; a row that is set so is saved so.\n"
     "In the answers p marks a parked pin: its number stands just once, and it gets no copper.\n"
     "v and ^ mark what is refused, f the numbers of the ring with the fewest nets, F those of both rings.\n"
+    "DENSITY tells how many nets lie over each column, each from its first column with a pin to its last.\n"
     "The bar: looks that the routing took, of the most that so many nets take. For each track the\n"
     "router looks once at every net that is not placed yet.\n"
     "The exit status is 1 if any command or list was refused or a board is faulty, else 0.\n";

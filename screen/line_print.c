@@ -50,6 +50,22 @@ static void print_rows(const struct order *order)
     print_row_marks(order, BOT_ROW, '^');
 }
 
+/* The density of each column, or that it is not known. Answers whether it is. */
+static bool print_density(const struct draft *draft)
+{
+    char words[DRAFT_WORDS];
+    if (draft->wrong) {
+        draft_wrong_words(draft, DRAFT_WORDS, words);
+        printf("%s\n", words);
+        return false;
+    }
+    for (size_t c = 0; c < draft->columns; c++)
+        printf(c == 0 ? "DENSITY %u" : " %u", draft->counts[c]);
+    if (draft->columns > 0)
+        putchar('\n');
+    return true;
+}
+
 static void print_cells(const char *gutter, const struct board_cell *cells, size_t count)
 {
     size_t end = count, gutter_end = GUTTER;
@@ -145,6 +161,7 @@ bool print_order(const struct order *order)
     struct board_view view;
     const struct verdict *verdict = order_verdict(order);
     print_rows(order);
+    bool known = print_density(&order->draft);
     order_summary(order, text);
     printf("%s\n", text);
     bool own_refused = print_own(order);
@@ -161,5 +178,5 @@ bool print_order(const struct order *order)
             printf("piece %u: %s\n", view.marked_piece, words);
         print_drawing(&view);
     }
-    return !verdict->refused && !own_refused;
+    return known && !verdict->refused && !own_refused;
 }

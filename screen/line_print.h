@@ -7,8 +7,8 @@
 /* A byte as it may be printed. */
 char printable(uint8_t byte);
 
-/* The list with its marks, the verdict, what is told of a laminate, looks and parked pins, what to do, and the rings or
- * the board. Answers whether nothing is refused. */
+/* The list with its marks and the density of its columns, the verdict, what is told of a laminate, looks and parked
+ * pins, what to do, and the rings or the board. Answers whether nothing is refused, and the density is known. */
 bool print_order(const struct order *order);
 
 /* A line that says which pins are parked, if any are. */

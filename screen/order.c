@@ -45,7 +45,7 @@ int main(int count, char **words)
     }
     setlocale(LC_CTYPE, "");
     signal(SIGXFSZ, SIG_IGN); /* a file that may not grow is a failed write, with a message */
-    order_changed(order);
+    order_begin(order);
     int status = run(order, count == 2 ? words[1] : NULL);
     free(order);
     return status;

@@ -11,7 +11,7 @@ LOAD, SAVE, SAVE_PINS, JUDGE = "\x0f", "\x13", "\x17", "\x07"
 QUIT, MARK, CLEAR = "\x11", "\x0e", "\x15"
 SCROLL_UP, SCROLL_DOWN, SCROLL_RIGHT, SCROLL_LEFT = (f"\x1b[1;5{letter}" for letter in "ABCD")
 # lines of a screen of 24
-TITLE, VERDICT, MORE, _, RULER, TOP_MARKS, TOP_LINE, BOT_LINE, BOT_MARKS, DRAWING = range(10)
+TITLE, VERDICT, MORE, _, RULER, TOP_MARKS, TOP_LINE, BOT_LINE, BOT_MARKS, DENSITY, DRAWING = range(11)
 MESSAGE, KEYS = 22, 23
 PITCH, GUTTER = 4, 5  # cells of a column, and before the first
 
@@ -44,6 +44,13 @@ def expect_message(s, what, due):
     """Waits for a message; a bar of looks may stand in what is left of its line."""
     bar = re.compile(r"(^|  )looks \d+ of at most \d+( \[#* *\])?$")
     s.expect(what, lambda: bar.sub("", s.grid.line(MESSAGE)), due)
+
+
+def in_sight(lines, rows=24):
+    """The lines of a drawing that a window shows of it at first: where not all fit, the pins stay in sight, if more
+    than two fit."""
+    room = rows - DRAWING - 2
+    return lines if len(lines) <= room else [*lines[:room - 1], lines[-1]] if room > 2 else lines[:room]
 
 
 def expect_cursor(s, what, y, x):

@@ -68,6 +68,7 @@ static void paint_order(struct screen *screen)
     view_ruler(screen, view);
     view_row(screen, TOP_ROW, LINE_TOP, LINE_TOP_MARKS);
     view_row(screen, BOT_ROW, LINE_BOT, LINE_BOT_MARKS);
+    view_density(screen);
     paint_below(screen, view);
     view_keys();
     put_cursor(screen, view_message(screen));

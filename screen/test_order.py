@@ -13,6 +13,8 @@ from pathlib import Path
 sys.dont_write_bytecode = True
 sys.path.insert(0, str(Path(__file__).resolve().parent))
 import cases_build  # noqa: E402
+import cases_density  # noqa: E402
+import cases_draft  # noqa: E402
 import cases_files  # noqa: E402
 import cases_laminate  # noqa: E402
 import cases_laminate_pipe  # noqa: E402
@@ -32,7 +34,7 @@ def main():
     try:
         for cases in (cases_build, cases_typing, cases_files, cases_window, cases_pipe, cases_parked, cases_padded,
                       cases_line_ends, cases_looks, cases_turned, cases_laminate, cases_laminate_pipe,
-                      cases_rings):
+                      cases_rings, cases_density, cases_draft):
             with tempfile.TemporaryDirectory() as name:
                 cases.run(Path(name))
     except (pseudo_terminal.Failure, subprocess.TimeoutExpired) as failure:

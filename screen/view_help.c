@@ -1,5 +1,7 @@
 #include "views.h"
 
+#include <limits.h>
+
 static const char *const help[] = {
     "Digits, space   the net of each pin, spaces between two; 0 for no pin",
     "Tab Enter Up Dn the other row, same column",
@@ -19,16 +21,22 @@ static const char *const help[] = {
     "o is a joint, + a crossing without it.",
     "p marks a parked pin: its number stands just once, and it gets no copper.",
     "v ^ mark what is refused, f the ring with the fewest nets, F both rings.",
+    "dens: how many nets lie over a column.",
     "The bar: looks that the routing took, of the most that so many nets take.",
     "For each track the router looks once at every net that is not placed yet.",
 };
 
-/* Two lines are the most that an entry takes in the narrowest window. */
+/* The line after an entry that stands from line y on. */
+static int entry_end(const char *entry, int y)
+{
+    return paint_lines_from(INT_MAX, y, INT_MAX, 1, entry, STYLE_PLAIN);
+}
+
 size_t view_help(size_t first)
 {
     size_t next = first, count = sizeof help / sizeof *help;
     int y = LINE_TITLE + 2, end = paint_rows() - 1;
-    for (; next < count && y + 2 <= end; next++)
+    for (; next < count && entry_end(help[next], y) <= end; next++)
         y = paint_lines(y, end, 1, help[next], STYLE_PLAIN);
     paint_bar(LINE_TITLE, STYLE_BAR);
     paint_text(LINE_TITLE, 0, paint_across(),

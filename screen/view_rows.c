@@ -1,7 +1,6 @@
 #include "views.h"
 
-/* Puts a glyph at a cell of rows and drawing, if it is among those shown. */
-static void put(const struct screen *screen, int y, size_t x, wchar_t glyph, enum style style)
+void view_glyph(const struct screen *screen, int y, size_t x, wchar_t glyph, enum style style)
 {
     if (x >= screen->scroll_across && x - screen->scroll_across < view_cells())
         paint_glyph(y, GUTTER + (int)(x - screen->scroll_across), glyph, style);
@@ -36,13 +35,13 @@ static void put_cell(const struct screen *screen, int row, int y, int marks_y, s
     bool marked = is_marked(order, &order->finding.marks, row, cell);
     bool fewest = is_marked(order, &order->finding.fewest, row, cell), shows = byte >= 0x20 && byte <= 0x7E;
     enum style style = parked != NULL ? STYLE_PARKED : shows ? STYLE_PLAIN : STYLE_BAD;
-    put(screen, y, x, shows ? byte : L'?', marked ? STYLE_MARK : fewest ? STYLE_FEWEST_MARK : style);
+    view_glyph(screen, y, x, shows ? byte : L'?', marked ? STYLE_MARK : fewest ? STYLE_FEWEST_MARK : style);
     if (fewest)
-        put(screen, marks_y, x, marked ? L'F' : L'f', STYLE_FEWEST);
+        view_glyph(screen, marks_y, x, marked ? L'F' : L'f', STYLE_FEWEST);
     else if (marked)
-        put(screen, marks_y, x, row == TOP_ROW ? L'v' : L'^', STYLE_BAD);
+        view_glyph(screen, marks_y, x, row == TOP_ROW ? L'v' : L'^', STYLE_BAD);
     else if (parked != NULL && cell == parked->last)
-        put(screen, marks_y, x, L'p', STYLE_PARKED);
+        view_glyph(screen, marks_y, x, L'p', STYLE_PARKED);
 }
 
 /* The cells of a word that are in sight, and the space or the row's end after it, at the right edge of its column. */
@@ -58,8 +57,7 @@ static void put_word(const struct screen *screen, int row, int y, int marks_y, c
         put_cell(screen, row, y, marks_y, cell, x);
 }
 
-/* Signs beside the cells shown, that a row or its marks go on there. */
-static void put_signs(const struct screen *screen, int y, size_t first, size_t last, enum style style)
+void view_signs(const struct screen *screen, int y, size_t first, size_t last, enum style style)
 {
     if (first < screen->scroll_across)
         paint_glyph(y, GUTTER - 1, L'<', style);
@@ -74,7 +72,7 @@ static void put_mark_signs(const struct screen *screen, const struct mark *marks
     for (size_t i = 0; i < count; i++)
         if (marks[i].row == row) {
             size_t x = columns_x(&screen->columns, text, marks[i].first);
-            put_signs(screen, marks_y, x, x, style);
+            view_signs(screen, marks_y, x, x, style);
         }
 }
 
@@ -89,7 +87,7 @@ void view_row(const struct screen *screen, int row, int y, int marks_y)
         put_word(screen, row, y, marks_y, &word);
     while (screen->columns.edge[word.column] < end && row_next_word(text, &word));
     if (text->length > 0)
-        put_signs(screen, y, columns_x(&screen->columns, text, 0), columns_x(&screen->columns, text, text->length - 1),
+        view_signs(screen, y, columns_x(&screen->columns, text, 0), columns_x(&screen->columns, text, text->length - 1),
                   STYLE_DIM);
     put_mark_signs(screen, order->parked.marks, order->parked.count, row, marks_y, STYLE_PARKED);
     if (!has_marks(order))
@@ -106,7 +104,7 @@ static void put_column(const struct screen *screen, size_t column, size_t edge, 
     if (column > 999 && column % 2 == 1)
         return;
     for (size_t x = edge, number = column; number > 0 && x > 0; number /= 10)
-        put(screen, LINE_RULER, --x, (wchar_t)(L'0' + (int)(number % 10)), style);
+        view_glyph(screen, LINE_RULER, --x, (wchar_t)(L'0' + (int)(number % 10)), style);
 }
 
 void view_ruler(const struct screen *screen, const struct board_view *view)

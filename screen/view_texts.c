@@ -19,21 +19,36 @@ void view_keys(void)
             x = paint_text(y, x, paint_across(), keys[i], STYLE_BAR) + 2;
 }
 
+/* The tracks in sight, where not all lines of the board are: between the pins, or with them where these scroll too. */
+static void tracks_words(const struct screen *screen, const struct board_view *view, char words[WORDS_MOST])
+{
+    size_t lines = view_lines(), pins = lines > 2 ? 1 : 0;
+    words[0] = '\0';
+    if (lines >= board_view_lines(view) || view->tracks == 0)
+        return;
+    size_t high = view->tracks + 1 - (view_line_shown(screen, view, pins) + 1) / 2;
+    size_t low = view->tracks + 1 - view_line_shown(screen, view, lines - 1 - pins) / 2;
+    high = high < view->tracks ? high : view->tracks;
+    low = low > 1 ? low : 1;
+    if (high > low)
+        snprintf(words, WORDS_MOST, ", tracks %zu to %zu of %u", high, low, view->tracks);
+    else if (high == low)
+        snprintf(words, WORDS_MOST, ", track %zu of %u", high, view->tracks);
+    else
+        snprintf(words, WORDS_MOST, ", no track of %u", view->tracks);
+}
+
 /* Where only part of the board is in sight, which: at the right of the title, or in its place. */
 static void put_part(const struct screen *screen, const struct board_view *view, int title_end)
 {
-    char text[120];
-    size_t cells = view_cells(), lines = view_lines();
-    if (cells >= board_view_cells(view) && lines >= board_view_lines(view))
+    char text[2 * WORDS_MOST], tracks[WORDS_MOST];
+    size_t cells = view_cells();
+    if (cells >= board_view_cells(view) && view_lines() >= board_view_lines(view))
         return;
     size_t left = board_view_column_at(view, screen->scroll_across);
     size_t right = board_view_column_at(view, screen->scroll_across + cells - 1);
-    int length = snprintf(text, sizeof text, "  columns %zu to %zu of %u ", left, right, view->width);
-    size_t high = view->tracks + 1 - (view_line_shown(screen, view, 1) + 1) / 2;
-    size_t low = view->tracks + 1 - view_line_shown(screen, view, lines - 2) / 2;
-    if (lines > 2 && lines < board_view_lines(view) && high >= low)
-        length = snprintf(text, sizeof text, "  columns %zu to %zu of %u, tracks %zu to %zu of %u ", left, right,
-                          view->width, high, low, view->tracks);
+    tracks_words(screen, view, tracks);
+    int length = snprintf(text, sizeof text, "  columns %zu to %zu of %u%s ", left, right, view->width, tracks);
     int x = paint_across() - length;
     if (x < title_end)
         paint_bar(LINE_TITLE, STYLE_BAR);

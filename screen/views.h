@@ -5,11 +5,11 @@
 #include "paint.h"
 #include "screen.h"
 
-/* The lines of the screen from above; the drawing takes what is left over two lines at the bottom. Ruler, rows and
- * drawing have the same columns, and scroll together. */
+/* The lines of the screen from above; the drawing takes what is left over two lines at the bottom. Ruler, rows, bars of
+ * density and drawing have the same columns, and scroll together. */
 enum {
     LINE_TITLE, LINE_VERDICT, LINE_RULER = LINE_VERDICT + 3, LINE_TOP_MARKS, LINE_TOP, LINE_BOT, LINE_BOT_MARKS,
-    LINE_DRAWING, BOTTOM_LINES = 2
+    LINE_DENSITY, LINE_DRAWING, BOTTOM_LINES = 2
 };
 
 /* The lines of the drawing; the cells of rows and drawing, in fours as columns are: half a number would be another
@@ -26,12 +26,19 @@ size_t view_whole(const struct screen *screen, const struct board_view *view);
 /* A scroll that leaves no empty space at the end. */
 size_t view_cut(size_t scroll, size_t whole, size_t shown);
 
+/* Puts a glyph at a cell of rows and drawing, if it is among those shown. */
+void view_glyph(const struct screen *screen, int y, size_t x, wchar_t glyph, enum style style);
+
+/* Signs beside the cells shown, that what goes from cell `first` to `last` goes on there. */
+void view_signs(const struct screen *screen, int y, size_t first, size_t last, enum style style);
+
 /* Each part. The view is NULL where no board is drawn. */
 void view_title(const struct screen *screen, const struct board_view *view);
 void view_keys(void);
 void view_verdict(const struct screen *screen, const struct board_view *view);
 void view_ruler(const struct screen *screen, const struct board_view *view);
 void view_row(const struct screen *screen, int row, int y, int marks_y);
+void view_density(const struct screen *screen);
 void view_drawing(const struct screen *screen, const struct board_view *view);
 void view_ring(const struct screen *screen);
 void view_hints(const struct screen *screen);

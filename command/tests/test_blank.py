@@ -74,6 +74,7 @@ WRONG_CHOOSERS = {  # what is no answer of 2 tracks and the table 2 4 16
     "names a blank of no entry": "echo BLANK 3", "names one of the stock": "echo BLANK 8",
     "names one too small": "echo BLANK 1", "has a refusal of no table": "echo REFUSED 17 1",
     "has the number that is not used": "echo REFUSED 6 2", "has one of a pin list": "echo REFUSED 5 2",
+    "has one of a draft": "echo REFUSED 21 2",
     "refuses other tracks": "echo REFUSED 14 3", "refuses other tracks of the table": "echo REFUSED 16 3",
     "refuses an entry that is not there": "echo REFUSED 15 4",
     "refuses 3 entries as none or too many": "echo REFUSED 15 0", "refuses few tracks as too many": "echo REFUSED 14 2",

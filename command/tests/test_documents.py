@@ -13,7 +13,7 @@ from command.tests.workshop import ROOT
 MANUAL = (ROOT / "docs" / "MANUAL.md").read_text()
 PAGE = (ROOT / "docs" / "channel.1").read_text()
 SCOPE = (ROOT / "docs" / "SCOPE.md").read_text()
-ONLY_FROM_C = {1}  # refusals that the commands never give
+ONLY_FROM_C = {1, 21, 22, 23}  # refusals that the commands never give
 SECTIONS_OF_01 = ("Wiring rule", "Pin list", "Spans and constraints", "Filling tracks", "Drawing", "Board file",
                   "Judge, blanks, programs", "The shop's refusal words", "Bench examples", "Which form belongs where",
                   "Contracts and examples")

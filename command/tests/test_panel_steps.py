@@ -24,8 +24,9 @@ WRONG_JOINERS = {  # what is no answer of A and B
     "refuses it as uneven": "echo REFUSED 4 5", "refuses a net": "echo REFUSED 5 1",
     "refuses it as tangled": "printf 'REFUSED 7 2\\nRING 1 1\\nRING 2 2\\n'",
     "says that it is full": "echo REFUSED 18 512", "has a refusal of a board": "echo REFUSED 8 4",
-    "has a number that is not used": "echo REFUSED 17 1",
-    "has a refusal of no table": "echo REFUSED 19 1", "refuses and joins": f"echo REFUSED 3 513; {RIGHT}",
+    "has a number that is not used": "echo REFUSED 17 1", "has another that is not used": "echo REFUSED 19 1",
+    "has a refusal of a draft": "echo REFUSED 23 1",
+    "has a refusal of no table": "echo REFUSED 24 1", "refuses and joins": f"echo REFUSED 3 513; {RIGHT}",
     "changes a file": f"printf x >>second; {RIGHT}", "takes a file away": f"rm first; {RIGHT}",
 }
 WRONG_OF_PANEL = {  # what a listing program may say of A_B that does not follow from what it says of A and of B

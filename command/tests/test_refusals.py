@@ -27,7 +27,7 @@ class Table(unittest.TestCase):
         self.table = refusals.read_table()
 
     def test_numbers_and_words(self):
-        self.assertEqual(list(self.table), [0, 1, 2, 3, 4, 5, *range(7, 17), 18])
+        self.assertEqual(list(self.table), [0, 1, 2, 3, 4, 5, *range(7, 17), 18, 21, 22, 23])
         self.assertEqual(len({refusal.word for refusal in self.table.values()}), len(self.table))
 
     def test_the_header_for_c_programs(self):
@@ -73,14 +73,14 @@ class Table(unittest.TestCase):
         before, seven, after = lines[:7], lines[7], lines[8:]
         wrong = {
             "empty": [], "heading alone": lines[:1], "no heading": lines[1:], "cut": lines[:-1],
-            "more": [*lines, "19\ta\tb\tc\n"], "a number left out": before + after,
-            "a number that is not used": [*before, "6\ta\tb\tc\n", seven, *after],
-            "that number for another": [*before, "6\ta\tb\tc\n", *after],
-            "the other": [*lines[:-1], "17\ta\tb\tc\n", lines[-1]],
-            "the other for the last": [*lines[:-1], "17\ta\tb\tc\n"],
+            "more": [*lines, "24\ta\tb\tc\n"], "a number left out": before + after,
             "two exchanged": [*before, after[0], seven, *after[1:]],
             "a text less": [*before, "7\ta\tb\n", *after], "an empty text": [*before, "7\ta\t\tc\n", *after],
         }
+        for number in (6, 17, 19, 20):
+            at = 1 + sum(used < number for used in self.table)
+            for name, end in (("among the others", at), ("for another", at + 1)):
+                wrong[f"{number}, which is not used, {name}"] = [*lines[:at], f"{number}\ta\tb\tc\n", *lines[end:]]
         for name, changed in wrong.items():
             with self.subTest(name), tempfile.NamedTemporaryFile("w", suffix=".tsv") as file:
                 file.write("".join(changed))

@@ -49,7 +49,7 @@ WRONG_FINDERS = {  # what is no answer of LONGER
     "refuses it as uneven": "echo REFUSED 4 6", "refuses a byte after its end": "echo REFUSED 2 30",
     "refuses a place after its end": "echo REFUSED 5 11", "refuses place 0": "echo REFUSED 5 0",
     "has a refusal of a board": "echo REFUSED 8 4", "has the number that is not used": "echo REFUSED 6 1",
-    "has a refusal of no table": "echo REFUSED 17 1",
+    "has a refusal of no table": "echo REFUSED 17 1", "has a refusal of a draft": "echo REFUSED 22 1",
 }
 
 

@@ -1,26 +1,23 @@
--- The refusals of the calls, case by case, and a call's contract from what it answered and left: of each refusal, and of
--- none.
+-- The refusals of the calls, case by case, and that the place of each is the net number or the length of a draft.
 use Prim.Native.Nat.{ℕ, _≤_, _<_}
 use native.Mathlib.Omega.{arith}
-use mathlib.Core.Path.{_≡_, refl, sym, _∙_, ap}
-use mathlib.Core.List.{List, [], _∷_, _++_}
+use native.Mathlib.Decide.{decLt}
+use mathlib.Core.Path.{_≡_, sym, _∙_, subst}
+use mathlib.Core.List.{List}
+use mathlib.Core.Logic.{⊎-elim}
 use mathlib.Core.Bool.{Bool, true, false}
-use mathlib.Core.Option.{none, some}
+use mathlib.Core.Option.{Option, none, some, Option·none-ne-some, Option·some-injective}
 use lib.ListN.{length}
 use borrow.Author.Tests.{lt-ltb, le-ltb}
-use Rattle.lists.specs.Lists.{keep, from}
+use Rattle.lists.specs.Lists.{keep}
 use Rattle.refusal.specs.declared.Refusal.{Refusal}
 use Rattle.refusal.specs.declared.Refusal.the-variants.{ShortTray, BadSpan, AlreadyHere, NotHere}
-use Rattle.refusal.specs.Refusals.{refuseIf, refuseAtFirst, _or-else_, answered}
-use Rattle.refusal.specs.ChainLaws.{answered-none, answered-some}
+use Rattle.refusal.specs.Refusals.{placeOf, refuseIf, refuseAtFirst, _or-else_}
+use Rattle.refusal.specs.ChainLaws.{or-else-some, refuse-if-some}
 use Rattle.refusal.specs.Trays.{draftTray, shortTray}
-use Rattle.draft.specs.declared.DraftAnswer.{DraftAnswer}
-use Rattle.draft.specs.declared.DraftAnswer.the-variants as change
-use Rattle.draft.specs.declared.CountAnswer.{CountAnswer}
-use Rattle.draft.specs.declared.CountAnswer.the-variants as ask
-use Rattle.draft.specs.Marks.{marked, isHere, countOf, greatestOf, arrivedIn, leftFrom, cleared}
+use Rattle.draft.specs.Marks.{isHere}
 use Rattle.draft.specs.Answers.{goodNumber, goodSpan, shortDraft, arrivalRefusal, leavingRefusal}
-use Rattle.draft.specs.Answers.{arriveRefusal, leaveRefusal, unless, arriveAfter, leaveAfter, clearAfter}
+use Rattle.draft.specs.Answers.{arriveRefusal, leaveRefusal}
 use Rattle.draft.specs.Code.{LongDraft}
 
 -- refusal 1
@@ -70,3 +67,35 @@ module _ (words : List ℕ) (n : ℕ) where
   pub leave-silent : LongDraft words → goodNumber n ≡ true → isHere words n ≡ true → leaveRefusal words n ≡ none
   unfolding leaveRefusal leavingRefusal refuseIf _or-else_
   leave-silent long good here = rw (long-silent words long, good, here)
+
+-- the place of every refusal is the net number, or the length of a draft
+abbrev pub Below : ℕ → Option Refusal → Type 0
+Below m a = (q : Refusal) → a ≡ some q → placeOf q ≤ m
+
+below-if : (m : ℕ) (b : Bool) (r : Refusal) → placeOf r ≤ m → Below m (refuseIf b r)
+below-if m b r h q e = let s = refuse-if-some b r q e in subst (λ (o : Refusal). placeOf o ≤ m) (s .1) h
+
+below-either : (m : ℕ) (a b : Option Refusal) → Below m a → Below m b → Below m (a or-else b)
+below-either m a b h k q e = ⊎-elim (h q) (λ s. k q (s .1)) (or-else-some a b q e)
+
+pub below-short : (m : ℕ) (words : List ℕ) → draftTray ≤ m → Below m (shortDraft words)
+below-short m words h q e =
+    elim (decLt (length words) draftTray) [
+      | yes short ↦
+          (let same = Option·some-injective (ShortTray draftTray) q (sym (short-told words short) ∙ e) in
+          subst (λ (o : Refusal). placeOf o ≤ m) same h)
+      | no long ↦ absurd (Option·none-ne-some q (sym (long-silent words (omega arith)) ∙ e))
+    ]
+
+module _ (m : ℕ) (words : List ℕ) (long : draftTray ≤ m) (n : ℕ) (small : n ≤ m) where
+  pub arrive-below : (first last : ℕ) → Below m (arriveRefusal words n first last)
+  unfolding arriveRefusal arrivalRefusal
+  arrive-below first last =
+      below-either m (shortDraft words) _ (below-short m words long)
+      (below-either m _ _ (below-if m _ (BadSpan n) small) (below-if m _ (AlreadyHere n) small))
+
+  pub leave-below : Below m (leaveRefusal words n)
+  unfolding leaveRefusal leavingRefusal
+  leave-below =
+      below-either m (shortDraft words) _ (below-short m words long)
+      (below-either m _ _ (below-if m _ (BadSpan n) small) (below-if m _ (NotHere n) small))

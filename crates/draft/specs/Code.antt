@@ -36,6 +36,10 @@ pub record After (calls : List Call) (words : List ℕ) : Type 0 where
   pub began : Empty start
   pub held : words ≡ afterCalls start calls
 
+-- a column has at most 512 marks
+abbrev pub Few : CountAnswer → Type 0
+Few r = (k : ℕ) → r ≡ ask.Count k → k ≤ 512
+
 -- Rules out: a net that is here marked in its new columns too, and one of them forgotten (wordsHeld); 22 told before 21
 -- (answer)
 pub record ArriveDone (words : List ℕ) (n first last : ℕ) (r : DraftAnswer) (words′ : List ℕ) : Type 0 where
@@ -53,7 +57,7 @@ pub record LeaveDone (words : List ℕ) (n : ℕ) (r : DraftAnswer) (words′ : 
 -- Rules out: the marks of the last word not counted, and the words after the draft taken for a column 513 (answer)
 pub record CountDone (words : List ℕ) (c : ℕ) (r : CountAnswer) : Type 0 where
   pub answer : r ≡ askAnswer (shortDraft words) (countOf words c)
-  pub few : (k : ℕ) → r ≡ ask.Count k → k ≤ 512
+  pub few : Few r
   -- "its density is the number of marks"
   pub marks : (k : ℕ) → r ≡ ask.Count k → IsColumn c → k ≡ length (keep (marked words c) (from 0 512))
   -- Req 14
@@ -62,7 +66,7 @@ pub record CountDone (words : List ℕ) (c : ℕ) (r : CountAnswer) : Type 0 whe
 -- Rules out: the count of the last column, or of the first with a mark (answer)
 pub record GreatestDone (words : List ℕ) (r : CountAnswer) : Type 0 where
   pub answer : r ≡ askAnswer (shortDraft words) (greatestOf words)
-  pub few : (k : ℕ) → r ≡ ask.Count k → k ≤ 512
+  pub few : Few r
   -- Req 14
   pub promise : (calls : List Call) → After calls words → r ≡ ask.Count (spanGreatest (netsHere calls))
 

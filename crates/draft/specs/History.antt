@@ -10,7 +10,7 @@ use mathlib.Core.Option.{none}
 use lib.ListN.{length, getD}
 use lib.Dec.{eqb}
 use Rattle.lists.specs.Lists.{keep, anyOf, upTo, greatest}
-use Rattle.refusal.specs.Refusals.{Told, toldBy}
+use Rattle.refusal.specs.Refusals.{Told}
 use Rattle.refusal.specs.Trays.{draftTray}
 use Rattle.channel.specs.Channel.{widest}
 use Rattle.channel.specs.Density.{Span, spansOver}
@@ -22,9 +22,13 @@ use Rattle.draft.specs.Answers.{
   leavingRefusal,
   arriveRefusal,
   leaveRefusal,
+  changeAnswer,
+  askAnswer,
   arriveAfter,
   leaveAfter,
   clearAfter,
+  draftTold,
+  countTold,
 }
 
 -- the calls on a draft
@@ -49,11 +53,11 @@ afterCalls words (call ∷ calls) = afterCalls (afterCall words call) calls
 
 -- what a call on a memory is told, in 01's numbers
 unfoldable pub callTold : List ℕ → Call → Told
-callTold words (arrive n first last) = toldBy (arriveRefusal words n first last) (0 ∷ [])
-callTold words (leave n) = toldBy (leaveRefusal words n) (0 ∷ [])
-callTold words (count c) = toldBy (shortDraft words) (countOf words c ∷ [])
-callTold words whole = toldBy (shortDraft words) (greatestOf words ∷ [])
-callTold words clear = toldBy (shortDraft words) (0 ∷ [])
+callTold words (arrive n first last) = draftTold (changeAnswer (arriveRefusal words n first last))
+callTold words (leave n) = draftTold (changeAnswer (leaveRefusal words n))
+callTold words (count c) = countTold (askAnswer (shortDraft words) (countOf words c))
+callTold words whole = countTold (askAnswer (shortDraft words) (greatestOf words))
+callTold words clear = draftTold (changeAnswer (shortDraft words))
 
 -- a net that has arrived
 pub record Arrived : Type 0 where
@@ -90,11 +94,11 @@ spanGreatest nets = greatest (map (spanCount nets) (upTo widest))
 
 -- what a call is told where these nets are on the draft
 unfoldable pub netsTold : List Arrived → Call → Told
-netsTold nets (arrive n first last) = toldBy (arrivalRefusal (anyOf (isOf n) nets) n first last) (0 ∷ [])
-netsTold nets (leave n) = toldBy (leavingRefusal (anyOf (isOf n) nets) n) (0 ∷ [])
-netsTold nets (count c) = toldBy none (spanCount nets c ∷ [])
-netsTold nets whole = toldBy none (spanGreatest nets ∷ [])
-netsTold nets clear = toldBy none (0 ∷ [])
+netsTold nets (arrive n first last) = draftTold (changeAnswer (arrivalRefusal (anyOf (isOf n) nets) n first last))
+netsTold nets (leave n) = draftTold (changeAnswer (leavingRefusal (anyOf (isOf n) nets) n))
+netsTold nets (count c) = countTold (askAnswer none (spanCount nets c))
+netsTold nets whole = countTold (askAnswer none (spanGreatest nets))
+netsTold nets clear = draftTold (changeAnswer none)
 
 -- a draft on which no net is: its 4,096 words are 0
 pub record Empty (words : List ℕ) : Type 0 where

@@ -14,12 +14,13 @@ use Rattle.lists.specs.Members.{member→any, keep-all}
 use Rattle.lists.specs.Updates.{map-same}
 use Rattle.refusal.specs.declared.Refusal.{Refusal}
 use Rattle.refusal.specs.declared.Refusal.the-variants.{BadSpan, AlreadyHere, NotHere}
-use Rattle.refusal.specs.Refusals.{toldBy, refuseIf, _or-else_}
+use Rattle.refusal.specs.Refusals.{refuseIf, _or-else_}
 use Rattle.refusal.specs.ChainLaws.{none-or-else-later}
 use Rattle.refusal.specs.Trays.{draftTray}
 use Rattle.channel.specs.Channel.{highestNet, widest}
 use Rattle.draft.specs.Marks.{countOf, greatestOf, zeros, arrivedIn, leftFrom}
 use Rattle.draft.specs.Answers.{goodNumber, goodSpan, shortDraft, arrivalRefusal, leavingRefusal}
+use Rattle.draft.specs.Answers.{changeAnswer, askAnswer, draftTold, countTold}
 use Rattle.draft.specs.Answers.{arriveRefusal, leaveRefusal, unless, arriveAfter, leaveAfter, clearAfter}
 use Rattle.draft.specs.Code.{LongDraft}
 use Rattle.draft.specs.History.{Call, arrive, leave, count, whole, clear, afterCall, afterCalls, callTold}
@@ -146,11 +147,11 @@ module _ {words : List ℕ} {nets : List Arrived} (d : Draws words nets) where
 
   told : (call : Call) → callTold words call ≡ netsTold nets call
   unfolding callTold netsTold
-  told (arrive n first last) = ap (λ (r : Option Refusal). toldBy r (0 ∷ [])) (arrive-refused n first last)
-  told (leave n) = ap (λ (r : Option Refusal). toldBy r (0 ∷ [])) (leave-refused n)
-  told (count c) = ap₂ (λ r k. toldBy r (k ∷ [])) (long-silent words (d .long)) (counted d c)
-  told whole = ap₂ (λ r k. toldBy r (k ∷ [])) (long-silent words (d .long)) greatest-counted
-  told clear = ap (λ (r : Option Refusal). toldBy r (0 ∷ [])) (long-silent words (d .long))
+  told (arrive n first last) = ap (λ (r : Option Refusal). draftTold (changeAnswer r)) (arrive-refused n first last)
+  told (leave n) = ap (λ (r : Option Refusal). draftTold (changeAnswer r)) (leave-refused n)
+  told (count c) = ap₂ (λ r k. countTold (askAnswer r k)) (long-silent words (d .long)) (counted d c)
+  told whole = ap₂ (λ r k. countTold (askAnswer r k)) (long-silent words (d .long)) greatest-counted
+  told clear = ap (λ (r : Option Refusal). draftTold (changeAnswer r)) (long-silent words (d .long))
 
 draws-calls : (calls : List Call) {words : List ℕ} {nets : List Arrived} → Draws words nets
     → Draws (afterCalls words calls) (netsAfterCalls nets calls)

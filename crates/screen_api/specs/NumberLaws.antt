@@ -1,5 +1,5 @@
 -- What C reads in an entry's number is what was answered, and values that fit are their own number. Refusals have
--- numbers of at most 18, so that one with its place fits 64 bits.
+-- numbers of at most 23, so that one with its place fits 64 bits.
 use Prim.Native.Nat.{ℕ, _+_, _*_, _/_, _%_, _≤_, _<_}
 use native.Mathlib.Omega.{arith}
 use mathlib.Core.Path.{_≡_, refl, sym, _∙_}
@@ -21,12 +21,15 @@ use Rattle.refusal.specs.declared.Refusal.the-variants.{
   BadTable,
   NoStock,
   PanelFull,
+  BadSpan,
+  AlreadyHere,
+  NotHere,
 }
 use Rattle.refusal.specs.Refusals.{numberOf, placeOf, Told, toldAt, toldValues, toldBy}
 use Rattle.refusal.specs.ToldLaws.{told-zero}
 use Rattle.screen_api.specs.Numbers.{packed, entryNumber, refusalIn, placeIn, tracksIn, piecesIn, Decoded}
 
-pub refusal-small : (r : Refusal) → numberOf r ≤ 18
+pub refusal-small : (r : Refusal) → numberOf r ≤ 23
 refusal-small (ShortTray p) = omega arith
 refusal-small (Garbled p) = omega arith
 refusal-small (TooWide p) = omega arith
@@ -40,6 +43,9 @@ refusal-small (NoBlank p) = omega arith
 refusal-small (BadTable p) = omega arith
 refusal-small (NoStock p) = omega arith
 refusal-small (PanelFull p) = omega arith
+refusal-small (BadSpan p) = omega arith
+refusal-small (AlreadyHere p) = omega arith
+refusal-small (NotHere p) = omega arith
 
 -- 18 is the number of one refusal alone
 pub eighteen : (r : Refusal) → numberOf r ≡ 18 → r ≡ PanelFull (placeOf r)
@@ -56,6 +62,9 @@ eighteen (NoBlank p) e = absurd (omega arith)
 eighteen (BadTable p) e = absurd (omega arith)
 eighteen (NoStock p) e = absurd (omega arith)
 eighteen (PanelFull p) e = refl
+eighteen (BadSpan p) e = absurd (omega arith)
+eighteen (AlreadyHere p) e = absurd (omega arith)
+eighteen (NotHere p) e = absurd (omega arith)
 
 -- values that fit
 pub value-number : {v : ℕ} → v < 4294967296 → v ≡ entryNumber (toldValues (v ∷ []))

@@ -5,12 +5,20 @@ ghost use mathlib.Core.Path.{_≡_};
 ghost use Prim.Native.Nat.{_≤_};
 ghost use Rattle.refusal.specs.Refusals.{toldAt, toldRefusal};
 ghost use Rattle.channel.specs.Channel.{rows};
+ghost use Rattle.draft.specs.Answers.{draftTold, countTold};
+ghost use Rattle.draft.specs.Code.{Few};
+ghost use Rattle.draft.specs.History.{arrive, leave, count, whole};
 ghost use Rattle.judge.specs.Answers.{faultNumber, faultPlace};
 ghost use Rattle.screen_api.specs.Numbers.{entryNumber};
 ghost use Rattle.screen_api.specs.Code.{ReadEntry, BoundsEntry, RouteEntry, LooksEntry, CeilingEntry};
 ghost use Rattle.screen_api.specs.Code.{FewestEntry, JoinEntry, JudgeEntry, BlankEntry, OwnBlankEntry};
+ghost use Rattle.screen_api.specs.Drafts.{ChangeEntry, ClearEntry, AskEntry};
 use blanks::BlankAnswer;
 use channel::BoundsAnswer;
+use draft::CountAnswer;
+use draft::DraftAnswer;
+use grid::Column;
+use grid::Net;
 use judge::Fault;
 use judge::JudgeAnswer;
 use panel::JoinAnswer;
@@ -22,7 +30,7 @@ use router::RouteAnswer;
 
 // A number of the table and its place, in one number.
 fn numbered_at(number: u32, place: usize) -> u64
-    requires { ⌜ number ≤ 18 ⌝ }
+    requires { ⌜ number ≤ 23 ⌝ }
     ensures { λ r. ⌜ r ≡ entryNumber (toldAt number place) ⌝ }
 {
     let shown = if 4294967295 < place {
@@ -176,4 +184,63 @@ pub extern "C" fn cabjirt_own_blank(table: &[u32], tracks: u32) -> u64
         BlankAnswer::Blank(held) => held as u64,
         BlankAnswer::Refused(refusal) => refused(refusal),
     }
+}
+
+fn changed(answer: DraftAnswer) -> u64
+    ensures { λ r. ⌜ r ≡ entryNumber (draftTold answer) ⌝ }
+{
+    match answer {
+        DraftAnswer::Done => 0,
+        DraftAnswer::Refused(refusal) => refused(refusal),
+    }
+}
+
+// Takes all nets off a draft of at least 4,096 words: 0, or refusal 1.
+#[no_mangle]
+pub extern "C" fn cabjirt_draft_clear(words: &mut [u64]) -> u64
+    ensures { λ r. ⌜ ClearEntry (now (words .entry)) r (now (words .exit)) ⌝ }
+{
+    changed(draft::clear(words))
+}
+
+// A net arrives on a draft: 0, or refusals 1, 21 and 22.
+#[no_mangle]
+pub extern "C" fn cabjirt_draft_arrive(words: &mut [u64], number: u32, first: u32, last: u32) -> u64
+    ensures { λ r. ⌜ ChangeEntry (now (words .entry)) (arrive number first last) r (now (words .exit)) ⌝ }
+{
+    changed(draft::arrive(words, Net(number), Column(first), Column(last)))
+}
+
+// A net leaves a draft: 0, or refusals 1, 21 and 23.
+#[no_mangle]
+pub extern "C" fn cabjirt_draft_leave(words: &mut [u64], number: u32) -> u64
+    ensures { λ r. ⌜ ChangeEntry (now (words .entry)) (leave number) r (now (words .exit)) ⌝ }
+{
+    changed(draft::leave(words, Net(number)))
+}
+
+fn counted(answer: CountAnswer) -> u64
+    requires { ⌜ Few answer ⌝ }
+    ensures { λ r. ⌜ r ≡ entryNumber (countTold answer) ⌝ }
+{
+    match answer {
+        CountAnswer::Count(k) => k as u64,
+        CountAnswer::Refused(refusal) => refused(refusal),
+    }
+}
+
+// How many nets a draft has over a column, 0 outside 1 to 512; or refusal 1.
+#[no_mangle]
+pub extern "C" fn cabjirt_draft_count(words: &[u64], column: u32) -> u64
+    ensures { λ r. ⌜ AskEntry (now (words .entry)) (count column) r ⌝ }
+{
+    counted(draft::count(words, Column(column)))
+}
+
+// The greatest count of a draft's columns; or refusal 1.
+#[no_mangle]
+pub extern "C" fn cabjirt_draft_greatest(words: &[u64]) -> u64
+    ensures { λ r. ⌜ AskEntry (now (words .entry)) whole r ⌝ }
+{
+    counted(draft::greatest(words))
 }

@@ -1,5 +1,5 @@
 -- `numbered_at` meets its contract. There is no loop: on both ways the place shown is the smaller of the place and
--- 2^32 - 1, and the number is at most 18.
+-- 2^32 - 1, and the number is at most 23.
 use native.Mathlib.Omega.{arith}
 use mathlib.Core.Logic.{⊎-elim}
 use borrow.Author.Needs.{needs}

@@ -1,4 +1,4 @@
--- `refused` meets its contract: the number and the place are those of the refusal, and the number is at most 18.
+-- `refused` meets its contract: the number and the place are those of the refusal, and the number is at most 23.
 use Rattle.screen_api.specs.NumberLaws.{refusal-small}
 use borrow.Author.Needs.{needs}
 use Rattle.screen_api.proofs.refused.Statement.{statement}
