@@ -15,13 +15,13 @@ static struct lent lents[SIDES];
 static void compare(const char *name, enum operation operation, const struct input *in, bool shorten)
 {
     uint64_t answers[SIDES];
-    uint32_t which = shorten ? below(5) : 5;
+    uint32_t which = shorten ? below(6) : 6;
     for (enum side side = 0; side < sides_of(operation); side++) {
         struct lent *lent = &lents[side];
         size_t *lengths[] = {&lent->top_length, &lent->bot_length, &lent->ring_length, &lent->board_length,
-                             &lent->scratch_length};
-        lend(lent);
-        if (which < 5)
+                             &lent->scratch_length, &lent->words_length};
+        lend(lent, in);
+        if (which < 6)
             --*lengths[which];
         answers[side] = call(side, operation, in, lent);
         memset(lent->scratch, 0, sizeof lent->scratch);
@@ -97,8 +97,11 @@ bool agree(unsigned long rounds)
         compare(name, OWN_BLANK, &input, false);
         random_second(&input);
         compare(name, JOIN, &input, false);
+        random_draft(&input);
+        compare(name, DRAFT_ARRIVE, &input, false);
+        compare(name, DRAFT_LEAVE, &input, false);
     }
-    printf("%lu calls on the inputs below, with and without parked pins, and %lu random ones with second lists and "
-           "tables of blanks, %lu of them accepted: %lu differ\n", calls, rounds, accepted, differing);
+    printf("%lu calls on the inputs below, with and without parked pins, and %lu random ones with second lists, "
+           "tables of blanks and drafts, %lu of them accepted: %lu differ\n", calls, rounds, accepted, differing);
     return differing == 0;
 }

@@ -168,10 +168,13 @@ void make_input(enum shape shape, size_t width, struct input *in)
         crowd_line(shape, in);
     same_second(in);
     stock_table(in);
+    draft_of_rows(in);
 }
 
 bool measured_on(enum operation operation, enum shape shape)
 {
+    if (operation >= DRAFT_WIDE && operation <= DRAFT_GREATEST) /* nets 1 and 256 are the wide and the short one */
+        return shape == DENSE || shape == FULLEST;
     if (operation == JOIN || is_panel(shape))
         return operation == JOIN && (shape == EXAMPLE_B || is_panel(shape));
     if (shape == PADDED) /* the other operations take rows */

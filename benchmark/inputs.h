@@ -1,4 +1,4 @@
-/* inputs.h: the channels and boards that are measured, and random ones; tables of blanks. */
+/* inputs.h: the channels and boards that are measured, and random ones; tables of blanks; drafts. */
 #ifndef INPUTS_H
 #define INPUTS_H
 
@@ -33,7 +33,7 @@ extern const char *const shape_names[SHAPES];
 /* Makes an input of a shape on so many columns (example B has its own width). Its file is the board that the router
  * draws; the shapes that are boards alone have 4,095 pieces: the fullest board's, repeated; the same shuffled; branches
  * of one column; trunks of one track; or one contact again and again. Its second list is the same as the first, its
- * table is the stock. */
+ * table is the stock, its draft has the nets of its rows. */
 void make_input(enum shape shape, size_t width, struct input *input);
 
 /* Writes the rows of an input as the text that a shape has: the padded one in columns of four, with a carriage return
@@ -74,9 +74,17 @@ void stock_table(struct input *input);
  * ask it for. */
 void random_table(struct input *input);
 
+/* The draft of the nets that an input's rows have, over the columns that they span; and net 256, which in some shapes
+ * is over columns 256 and 257. */
+void draft_of_rows(struct input *input);
+
+/* A random draft, one in four or so of words that no nets make; and a net with its columns, often one that is
+ * refused. */
+void random_draft(struct input *input);
+
 /* A random channel with its text, sometimes one that is refused; its board is drawn if it can be routed, and then
  * damaged more often than not. More often than not the text has runs of spaces, or carriage returns where lines end.
- * Its second list and its table are random ones. */
+ * Its second list, its table and its draft are random ones. */
 void random_input(struct input *input);
 
 /* Puts pieces crowded on few lines in place of an input's board file: ranges one in the other, equal ones, ones that

@@ -33,7 +33,7 @@ static int facts(void)
     for (enum shape shape = 0; shape < SHAPES; shape++) {
         make_input(shape, 512, &input);
         printf("INPUT %s %zu %zu", shape_names[shape], input.top_length, pieces_of(&input));
-        lend(&lent);
+        lend(&lent, &input);
         print_answer(call(RATTLE, BOUNDS, &input, &lent));
         print_answer(call(RATTLE, ROUTE, &input, &lent));
         putchar('\n');
@@ -86,7 +86,7 @@ static int count_all(void)
             if (measured_on(operation, shape)) {
                 make_input(shape, 512, &input);
                 for (enum side side = 0; side < PAIRWISE; side++) {
-                    lend(&lent);
+                    lend(&lent, &input);
                     call(side, operation, &input, &lent); /* so that finding the C library's functions is not counted */
                     measured(side, operation, &input, &lent);
                     printf("COUNT %s %s %s\n", operation_names[operation], shape_names[shape], side_names[side]);
@@ -117,7 +117,7 @@ static int repeat_one(char **words)
         return 2;
     }
     make_input((enum shape)shape, 512, &input);
-    lend(&lent);
+    lend(&lent, &input);
     for (unsigned long i = strtoul(words[3], NULL, 10); i > 0; i--)
         measured((enum side)side, (enum operation)operation, &input, &lent);
     return 0;

@@ -28,7 +28,7 @@ static double now(void)
 static double batch(enum side side, enum operation operation, const struct input *input, size_t repeats)
 {
     static struct lent lent;
-    lend(&lent);
+    lend(&lent, input);
     measured(side, operation, input, &lent);
     double start = now();
     for (size_t i = 0; i < repeats; i++)

@@ -16,7 +16,8 @@ enum {
     PLAIN_RING = 1022,
     PLAIN_BOARD = 10240,
     PLAIN_SCRATCH = 5119,
-    PLAIN_PIECES = 4095
+    PLAIN_PIECES = 4095,
+    PLAIN_DRAFT = 4096
 };
 
 uint64_t plain_read(const uint8_t *text, size_t text_length, uint32_t *top, size_t top_length, uint32_t *bot,
@@ -46,6 +47,16 @@ uint64_t plain_own_blank(const uint32_t *table, size_t table_length, uint32_t tr
 uint64_t plain_join(const uint32_t *top1, size_t top1_length, const uint32_t *bot1, size_t bot1_length,
                     const uint32_t *top2, size_t top2_length, const uint32_t *bot2, size_t bot2_length, uint32_t *top,
                     size_t top_length, uint32_t *bot, size_t bot_length);
+
+uint64_t plain_draft_clear(uint64_t *words, size_t words_length);
+
+uint64_t plain_draft_arrive(uint64_t *words, size_t words_length, uint32_t number, uint32_t first, uint32_t last);
+
+uint64_t plain_draft_leave(uint64_t *words, size_t words_length, uint32_t number);
+
+uint64_t plain_draft_count(const uint64_t *words, size_t words_length, uint32_t column);
+
+uint64_t plain_draft_greatest(const uint64_t *words, size_t words_length);
 
 /* What the parts of the plain version share. */
 

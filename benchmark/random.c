@@ -225,6 +225,7 @@ void random_input(struct input *in)
         damage_file(in);
     random_second(in);
     random_table(in);
+    random_draft(in);
 }
 
 void garble(struct input *in)

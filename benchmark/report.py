@@ -115,7 +115,8 @@ def print_inputs(program):
         density, chain = divmod(int(bounds), 65536)
         answer = f"{int(value) % 65536} tracks" if number == "0" else f"{number}, {value} pairs"
         print_row(*SHAPES[shape], columns, f"{int(pieces):,}", density, chain, answer)
-    print()
+    print("\nThe draft of an input has its nets over the columns that they span. draft-wide: a net over 512 columns "
+          "leaves it and arrives again; draft-short: a net over two columns.\n")
 
 
 def print_times(times, counts):

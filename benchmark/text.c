@@ -27,7 +27,7 @@ void write_text(struct input *in)
 void draw_file(struct input *in)
 {
     static struct lent lent;
-    lend(&lent);
+    lend(&lent, in);
     uint64_t answer = call(RATTLE, ROUTE, in, &lent);
     size_t pieces = 0;
     if (answer >> 32 == 0) {

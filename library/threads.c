@@ -12,12 +12,24 @@ struct work {
     uint32_t top[CABJIRT_ROW], bot[CABJIRT_ROW], ring[CABJIRT_RING], scratch[CABJIRT_SCRATCH];
     uint32_t joined_top[CABJIRT_ROW], joined_bot[CABJIRT_ROW];
     uint8_t board[CABJIRT_BOARD];
-    uint64_t words[CABJIRT_DRAFT];
-    uint64_t answers[16];
+    uint64_t draft[CABJIRT_DRAFT], answers[15];
 };
 
 static struct work due[THREADS], works[THREADS];
 static int same[THREADS];
+
+/* A draft on which all nets of the thread come and every second one goes. */
+static void draft_through(struct work *work, size_t which)
+{
+    uint64_t *words = work->draft, *answers = work->answers + 10;
+    answers[0] = cabjirt_draft_clear(words, CABJIRT_DRAFT);
+    for (uint32_t net = 1; net <= 100 + which; net++)
+        answers[1] += cabjirt_draft_arrive(words, CABJIRT_DRAFT, net, net, CABJIRT_ROW - net);
+    for (uint32_t net = 2; net <= 100 + which; net += 2)
+        answers[2] += cabjirt_draft_leave(words, CABJIRT_DRAFT, net);
+    answers[3] = cabjirt_draft_count(words, CABJIRT_DRAFT, 50);
+    answers[4] = cabjirt_draft_greatest(words, CABJIRT_DRAFT);
+}
 
 /* A chain whose length and places differ with the thread; at the end its last net is put above the first. */
 static void work_through(struct work *work, size_t which)
@@ -46,12 +58,7 @@ static void work_through(struct work *work, size_t which)
     work->answers[9] = cabjirt_join(work->top, width, work->bot, width, (const uint32_t[]){1, 0, 2}, 3,
                                     (const uint32_t[]){0, 2, 1}, 3, work->joined_top, CABJIRT_ROW, work->joined_bot,
                                     CABJIRT_ROW);
-    work->answers[10] = cabjirt_draft_clear(work->words, CABJIRT_DRAFT);
-    work->answers[11] = cabjirt_draft_arrive(work->words, CABJIRT_DRAFT, 1, 1, (uint32_t)width);
-    work->answers[12] = cabjirt_draft_arrive(work->words, CABJIRT_DRAFT, 2, (uint32_t)which + 1, 500);
-    work->answers[13] = cabjirt_draft_leave(work->words, CABJIRT_DRAFT, 1);
-    work->answers[14] = cabjirt_draft_count(work->words, CABJIRT_DRAFT, (uint32_t)width);
-    work->answers[15] = cabjirt_draft_greatest(work->words, CABJIRT_DRAFT);
+    draft_through(work, which);
 }
 
 static void *repeat(void *number)
@@ -78,8 +85,8 @@ int main(void)
             return 2;
     for (size_t i = 0; i < THREADS; i++)
         all += same[i];
-    printf("%d rounds the same, %u tracks judged, a ring of %u nets, %u columns joined, density %u\n", all,
+    printf("%d rounds the same, %u tracks judged, a ring of %u nets, %u columns joined, %u nets over a column\n", all,
            cabjirt_value(due[0].answers[3]), cabjirt_value(due[0].answers[8]), cabjirt_value(due[0].answers[9]),
-           cabjirt_value(due[0].answers[15]));
+           cabjirt_value(due[0].answers[14]));
     return all == THREADS * ROUNDS ? 0 : 1;
 }

@@ -3,26 +3,37 @@
  * Usage: batch < questions > lines. A question is, its numbers most significant byte first:
  *
  *     kind      1 byte: 0 read, 1 bounds, 2 route, 3 judge, 4 blank, 5 looks, 6 ceiling, 7 own blank, 8 fewest ring,
- *               9 join
+ *               9 join, 10 draft
  *     fill      1 byte: what the lent buffers hold before; if it is odd, a buffer of length 0 is lent as NULL
  *     lent      2 numbers of 4 bytes: the lengths of the buffers that the entry writes (read and join: TOP, BOT; route:
  *               ring, board; judge: scratch, and one that is not used; fewest ring: ring, and one that is not used;
- *               blank and own blank: the tracks, and one that is not used)
- *     lengths   5 numbers of 4 bytes: of TOP (own blank: of the table), of BOT, of TOP and BOT of the second list that
- *               is joined, of the text or board file
+ *               blank and own blank: the tracks, and one that is not used; draft: its words, and what the first 4,096
+ *               of them hold before: 0 all 0, 1 what other buffers hold, 2 all bits set)
+ *     lengths   5 numbers of 4 bytes: of TOP (own blank: of the table; draft: of the calls), of BOT (draft: of words
+ *               put in before), of TOP and BOT of the second list that is joined, of the text or board file
  *     data      the numbers of those four rows, 4 bytes each, then the text or board file
+ *
+ * A draft's calls are four numbers each: 0 clear, 1 arrive, 2 leave, 3 count or 4 greatest; the net number or column;
+ * the first and the last column. A word put in is three: its place from 0, its upper and its lower half.
  *
  * A line is the number and value of the answer, then for each buffer that the entry writes: its name; its front, whose
  * length the answer tells; and `kept`, or `changed` with the offset of the first byte that changed outside the front,
  * guards before and after the buffer included. Scratch may hold anything, so only its guards are looked at. Last comes
- * whether the inputs were kept. */
+ * whether the inputs were kept.
+ *
+ * The line of a draft has a part for each call, with commas between: the number and value of the answer, and the words
+ * that the call has changed, as runs of words eight apart that were changed in the same bits: PLACE:COUNT:BITS, the
+ * bits in hexadecimal. The front of its buffer is its first 4,096 words. */
+#include <inttypes.h>
 #include <stdio.h>
 #include <stdlib.h>
 #include <string.h>
 
 #include "channel.h"
 
-enum { READ, BOUNDS, ROUTE, JUDGE, BLANK, LOOKS, CEILING, OWN_BLANK, FEWEST_RING, JOIN };
+enum { READ, BOUNDS, ROUTE, JUDGE, BLANK, LOOKS, CEILING, OWN_BLANK, FEWEST_RING, JOIN, DRAFT };
+enum { DRAFT_CLEAR, DRAFT_ARRIVE, DRAFT_LEAVE, DRAFT_COUNT, DRAFT_GREATEST };
+enum { HOLDS_0, HOLDS_FILL, HOLDS_1, CALL_NUMBERS = 4, WORD_NUMBERS = 3 };
 enum { LENT = 2, ROWS = 4, LENGTHS = ROWS + 1, HEADER = 2 + 4 * (LENT + LENGTHS), GUARD = 64, LONGEST = 1 << 20 };
 
 struct question {
@@ -168,6 +179,83 @@ static void ask_judge(const struct question *q)
     free(scratch.memory);
 }
 
+/* What a draft holds before its calls. */
+static void hold(const struct question *q, uint64_t *words, size_t length)
+{
+    for (size_t i = 0; i < length && q->lent[1] != HOLDS_FILL; i++)
+        words[i] = q->lent[1] == HOLDS_0 ? 0 : UINT64_MAX;
+    for (size_t i = 0; i + WORD_NUMBERS <= q->bot_length; i += WORD_NUMBERS) {
+        if (q->bot[i] >= length)
+            fail("a word is put behind a draft");
+        words[q->bot[i]] = (uint64_t)q->bot[i + 1] << 32 | q->bot[i + 2];
+    }
+}
+
+static uint64_t call_draft(const uint32_t *call, uint64_t *words, size_t length)
+{
+    switch (call[0]) {
+    case DRAFT_CLEAR:
+        return cabjirt_draft_clear(words, length);
+    case DRAFT_ARRIVE:
+        return cabjirt_draft_arrive(words, length, call[1], call[2], call[3]);
+    case DRAFT_LEAVE:
+        return cabjirt_draft_leave(words, length, call[1]);
+    case DRAFT_COUNT:
+        return cabjirt_draft_count(words, length, call[1]);
+    case DRAFT_GREATEST:
+        return cabjirt_draft_greatest(words, length);
+    default:
+        fail("a draft has no such call");
+        return 0;
+    }
+}
+
+/* The words that a call has changed, in runs. */
+static void put_changed(const uint64_t *words, const uint64_t *before, size_t length)
+{
+    static uint64_t changed[CABJIRT_DRAFT];
+    for (size_t i = 0; i < length; i++)
+        changed[i] = words[i] ^ before[i];
+    for (size_t i = 0; i < length; i++) {
+        uint64_t bits = changed[i];
+        size_t count = 0;
+        for (size_t j = i; bits != 0 && j < length && changed[j] == bits; j += CABJIRT_DRAFT / CABJIRT_ROW) {
+            changed[j] = 0;
+            count++;
+        }
+        if (count)
+            printf(" %zu:%zu:%" PRIx64, i, count, bits);
+    }
+}
+
+static void ask_draft(const struct question *q)
+{
+    static uint64_t before[CABJIRT_DRAFT];
+    struct buffer draft = lend("draft", sizeof(uint64_t), q->lent[0], q->fill);
+    uint64_t *words = (uint64_t *)(draft.memory + GUARD);
+    size_t held = draft.length < CABJIRT_DRAFT ? draft.length : CABJIRT_DRAFT;
+    hold(q, words, held);
+    for (size_t i = 0; i + CALL_NUMBERS <= q->top_length; i += CALL_NUMBERS) {
+        memcpy(before, words, held * sizeof *words);
+        fputs(i ? ", " : "", stdout);
+        put_answer(call_draft(q->top + i, start_of(&draft), draft.length));
+        put_changed(words, before, held);
+    }
+    printf(" %s", draft.name);
+    put_kept(&draft, held);
+    free(draft.memory);
+}
+
+/* What the entries answer that take rows alone. */
+static uint64_t answer_rows(const struct question *q)
+{
+    if (q->kind == BOUNDS)
+        return cabjirt_bounds(q->top, q->top_length, q->bot, q->bot_length);
+    if (q->kind == LOOKS)
+        return cabjirt_looks(q->top, q->top_length, q->bot, q->bot_length);
+    return cabjirt_ceiling(q->top, q->top_length, q->bot, q->bot_length);
+}
+
 static void ask(const struct question *q)
 {
     switch (q->kind) {
@@ -175,7 +263,9 @@ static void ask(const struct question *q)
         ask_read(q);
         break;
     case BOUNDS:
-        put_answer(cabjirt_bounds(q->top, q->top_length, q->bot, q->bot_length));
+    case LOOKS:
+    case CEILING:
+        put_answer(answer_rows(q));
         break;
     case ROUTE:
         ask_route(q);
@@ -186,12 +276,6 @@ static void ask(const struct question *q)
     case BLANK:
         put_answer(cabjirt_blank(q->lent[0]));
         break;
-    case LOOKS:
-        put_answer(cabjirt_looks(q->top, q->top_length, q->bot, q->bot_length));
-        break;
-    case CEILING:
-        put_answer(cabjirt_ceiling(q->top, q->top_length, q->bot, q->bot_length));
-        break;
     case OWN_BLANK:
         put_answer(cabjirt_own_blank(q->top, q->top_length, q->lent[0]));
         break;
@@ -200,6 +284,9 @@ static void ask(const struct question *q)
         break;
     case JOIN:
         ask_join(q);
+        break;
+    case DRAFT:
+        ask_draft(q);
         break;
     default:
         fail("a question is of no kind");

@@ -6,14 +6,18 @@ from itertools import islice
 from pathlib import Path
 
 import channel
+import drafts
 
 ROOT = Path(__file__).resolve().parent.parent
 PROGRAM = ROOT / "target" / "batch"
 LIBRARY = ROOT / "target" / "staticlib" / "libscreen_api.a"
-READ, BOUNDS, ROUTE, JUDGE, BLANK, LOOKS, CEILING, OWN_BLANK, FEWEST_RING, JOIN = range(10)
-NAMES = ("read", "bounds", "route", "judge", "blank", "looks", "ceiling", "own blank", "fewest ring", "join")
+READ, BOUNDS, ROUTE, JUDGE, BLANK, LOOKS, CEILING, OWN_BLANK, FEWEST_RING, JOIN, DRAFT = range(11)
+NAMES = ("read", "bounds", "route", "judge", "blank", "looks", "ceiling", "own blank", "fewest ring", "join", "draft")
+ZEROS, FILLED, ONES = range(3)  # what the words of a draft hold before
+GUARD = 64  # bytes before a buffer
 WORKERS = 2  # processes that make cases
 HEADER = struct.Struct(">BB7I")
+GIVEN = (0, 3, 1, 1, 0)  # how many numbers each call of a draft is given
 
 
 class Case:
@@ -28,8 +32,12 @@ class Case:
         self.due = due
 
     def number(self):
-        """The number of the answer due: 0 or that of a refusal or fault."""
+        """The number of the answer due: 0 or that of a refusal or fault; of a draft the first call's."""
         return int(self.due.split(" ", 1)[0])
+
+    def numbers(self):
+        """The numbers of all answers due: of a draft each call has one."""
+        return [number for number, *_ in calls_told(self.due)] if self.kind() == DRAFT else [self.number()]
 
     def place(self):
         """The value of the answer due, or the place."""
@@ -39,11 +47,13 @@ class Case:
         return self.question[0]
 
     def lent(self):
-        """The lengths of the buffers lent; of an entry that chooses a blank, first the tracks."""
+        """The lengths of the buffers lent; of an entry that chooses a blank, first the tracks; of a draft its words,
+        and what they hold before."""
         return HEADER.unpack_from(self.question)[2:4]
 
     def rows(self):
-        """TOP and BOT, then those of the second list that is joined; a table of blanks is the first row."""
+        """TOP and BOT, then those of the second list that is joined; a table of blanks, or the calls of a draft, are
+        the first row."""
         lengths = HEADER.unpack_from(self.question)[4:8]
         numbers = iter(struct.unpack_from(f">{sum(lengths)}I", self.question, HEADER.size))
         return [list(islice(numbers, length)) for length in lengths]
@@ -59,6 +69,17 @@ class Case:
         rows = self.rows()
         return rows[:2], rows[2:]
 
+    def calls(self):
+        """The calls of a draft: the name, and what is given."""
+        numbers = iter(self.rows()[0])
+        for code, *given in zip(numbers, numbers, numbers, numbers):
+            yield drafts.CALLS[code], *given[:GIVEN[code]]
+
+    def puts(self):
+        """The words put into a draft before its calls, by their places."""
+        numbers = iter(self.rows()[1])
+        return {place: upper << 32 | lower for place, upper, lower in zip(numbers, numbers, numbers)}
+
     def shown(self):
         """The question for people: what is asked, the rows as a pin list or the table, the bytes in hexadecimal."""
         kind, fill, first, second = *self.question[:2], *self.lent()
@@ -68,6 +89,9 @@ class Case:
             lines.append(joined("TABLE", listed(top)))
         elif kind == JOIN:
             lines += [joined(word, listed(row)) for rows in self.lists() for word, row in zip(("TOP", "BOT"), rows)]
+        elif kind == DRAFT:
+            lines += [f"word {place}: {word:x}" for place, word in self.puts().items()]
+            lines.append(", ".join(joined(*call) for call in self.calls()))
         elif kind not in (READ, BLANK):
             lines += [joined("TOP", listed(top)), joined("BOT", listed(bot))]
         if kind in (READ, JUDGE):
@@ -160,6 +184,43 @@ def join(first, second, fill=0, top=channel.ROW, bot=channel.ROW):
     except channel.Refused as refusal:
         due = rows_due((refusal.number, refusal.place))
     return Case(JOIN, due, fill, (top, bot), *first, second=second)
+
+
+def memory_of(words, fill, held, puts):
+    """What the words of a draft hold before its calls, where the fill is as in batch.c."""
+    if held == FILLED:
+        data = bytes((fill + 167 * i + 59 * (i >> 8)) & 255 for i in range(GUARD, GUARD + 8 * min(words, drafts.WORDS)))
+        memory = [int.from_bytes(data[i:i + 8], sys.byteorder) for i in range(0, len(data), 8)]
+    else:
+        memory = [0 if held == ZEROS else 2**64 - 1] * min(words, drafts.WORDS)
+    for place, word in puts.items():
+        memory[place] = word
+    return memory + [0] * (words - len(memory))
+
+
+def called(model, call):
+    """A call's part of the line: number and value, and the runs of words that changed."""
+    answer, marks = drafts.answer_of(model, call)
+    return joined(*answer, *(f"{place}:{count}:{bits:x}" for place, count, bits in drafts.runs(drafts.bits_of(marks))))
+
+
+def draft(calls, fill=0, words=drafts.WORDS, held=ZEROS, puts=None):
+    """The case of a list of calls, of a draft of so many words that begins empty or with any words."""
+    puts = puts or {}
+    empty = held == ZEROS and not any(puts.values())
+    model = drafts.Draft(words) if empty else drafts.Marks(memory_of(words, fill, held, puts))
+    due = joined(", ".join(called(model, call) for call in calls), "draft kept inputs kept")
+    numbers = [n for name, *given in calls for n in (drafts.CALLS.index(name), *given, *(0,) * (3 - len(given)))]
+    halves = [n for place, word in puts.items() for n in (place, word >> 32, word & 2**32 - 1)]
+    return Case(DRAFT, due, fill, (words, held), numbers, halves)
+
+
+def calls_told(line):
+    """What a line tells of each call of a draft: number, value, and runs of place, count and bits."""
+    for part in line.partition(" draft")[0].split(", "):
+        number, value, *changed = part.split()
+        runs = [run.split(":") for run in changed]
+        yield int(number), int(value), [(int(place), int(count), int(bits, 16)) for place, count, bits in runs]
 
 
 def judge(top, bot, file, fill=0, scratch=channel.SCRATCH):

@@ -9,13 +9,15 @@ from pathlib import Path
 import board_cases
 import channel
 import crowded_boards
+import draft_lists
+import drafts
 import panel_lists
 import ring_channels
 import row_cases
 import table_cases
 import text_cases
 
-OPEN, PIECE, BLANK, READ, CHECK, BOUNDS, FILL, JUDGE, LOOKS, OWN_BLANK, FEWEST, JOIN = range(12)
+OPEN, PIECE, BLANK, READ, CHECK, BOUNDS, FILL, JUDGE, LOOKS, OWN_BLANK, FEWEST, JOIN, DRAFT = range(13)
 
 
 def pair(number):
@@ -29,6 +31,9 @@ def rows_data(top, bot):
 
 class Cases:
     """The input so far, and the lines due."""
+
+    MARK = 7777  # what each word of a draft holds before its calls
+    ROOM = drafts.WORDS + 8  # the most words of a draft
 
     def __init__(self):
         self.input, self.lines, self.count = bytearray(), [], 0
@@ -127,6 +132,26 @@ class Cases:
         data = rows_data(*first)
         self.add(JOIN, pair(len(data)) + data + rows_data(*second), *lines, ("KEPT",))
 
+    def draft(self, calls, words=drafts.WORDS):
+        """A draft, lent so many of 4,104 words that each hold 7777: their number in two bytes; then the calls, each of
+        four numbers: 0 clear, 1 arrive, 2 leave, 3 count, 4 greatest; the net number or column; the first and the last
+        column; 0 for what a call is not given. Each call has a line. Then come those of the first 4,096 words that are
+        not 0, each behind its place from 0; all other words must still hold 7777, and all do if fewer are lent."""
+        model = drafts.Marks([self.MARK] * words)
+        lines = [(name.upper(), *self.called(model, name, *given)) for name, *given in calls]
+        held = {} if words < drafts.WORDS else drafts.bits_of(
+            (c, n) for c, numbers in enumerate(model.columns, 1) for n in numbers)
+        data = b"".join(pair(n) for name, *given in calls
+                        for n in (drafts.CALLS.index(name), *given, *(0,) * (3 - len(given))))
+        self.add(DRAFT, pair(words) + data, *lines, ("WORDS", *(n for word in sorted(held.items()) for n in word)),
+                 ("KEPT",))
+
+    @staticmethod
+    def called(model, name, *given):
+        """What the line of a call tells: 0, of an ask with the value; or the number of a refusal and its place."""
+        answer, _ = drafts.answer_of(model, (name, *given))
+        return answer if answer[0] or name in ("count", "greatest") else answer[:1]
+
     def channel_cases(self, top, bot):
         self.bounds(top, bot)
         self.fill(top, bot)
@@ -147,6 +172,7 @@ def main(folder):
     table_cases.add_all(cases)
     ring_channels.add_all(cases)
     panel_lists.add_all(cases)
+    draft_lists.add_all(cases)
     cases.input += bytes([OPEN]) + pair(5) + bytes(4)  # five bytes are announced, and four follow
     cases.lines.append("CUT")
     folder.joinpath("stdin").write_bytes(bytes(cases.input))

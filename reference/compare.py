@@ -1,7 +1,8 @@
 #!/usr/bin/env python3
 """Compares the five programs and the C entries with channel.py on cases drawn from a seed, the router with a search on
 small channels, the ring with the fewest nets with all rings of small channels, two lists on one panel with the words of
-their request on small lists, and the choice of own blanks with those of its own on small tables.
+their request on small lists, nets that come and go on a draft with those of theirs on short lists of calls, and the
+choice of own blanks with those of its own on small tables.
 
     python3 reference/compare.py [SEED]        runs the test of the comparison itself, then all parts
     python3 reference/compare.py --self-test   runs that test alone
@@ -17,6 +18,7 @@ from multiprocessing import Pool
 sys.dont_write_bytecode = True  # the modules below leave nothing beside them
 
 import batch
+import draft_checks
 import entry_cases
 import exhaustive
 import own_checks
@@ -27,10 +29,10 @@ import self_test
 
 DEFAULT_SEED = "2026"
 PROGRAMS = ("listing", "board_writer", "board_judge", "ring_finder", "panel_joiner")
-# No answer has number 6 or 17. The programs lend enough memory, have a blank for every channel and take no other table,
-# so 1 and 14 to 16 never show. None is an output other than a refusal.
+# No answer has number 6, 17, 19 or 20. The programs lend enough memory, have a blank for every channel, take no other
+# table and keep no draft, so 1, 14 to 16 and 21 to 23 never show. None is an output other than a refusal.
 PROGRAM_NUMBERS = {None, 0, *range(2, 6), *range(7, 14), 18}
-ENTRY_NUMBERS = {*range(6), *range(7, 17), 18}
+ENTRY_NUMBERS = {*range(6), *range(7, 17), 18, 21, 22, 23}
 
 
 def first_difference(cases, answers):
@@ -82,14 +84,15 @@ def entries(seed):
         parts = pool.map(entry_cases.made, entry_cases.jobs(seed), chunksize=1)
     cases = [case for made, _ in parts for case in made]
     difference = first_difference(cases, batch.answers([case.question for case in cases]))
-    numbers = Counter(case.number() for case in cases)
+    numbers = Counter(number for case in cases for number in case.numbers())
     each = Counter(batch.NAMES[case.kind()] for case in cases)
     kinds = ", ".join(f"{name} {each[name]}" for name in batch.NAMES)
     features = sum((found for _, found in parts), Counter())
     parked = ", ".join(f"{name} {features[name]}" for name in entry_cases.PARKED)
     due = (entry_cases.GOOD + entry_cases.SWEPT + entry_cases.PARKED + entry_cases.READ + entry_cases.GARBLED
            + entry_cases.LOOKS + entry_cases.CEILING + entry_cases.FEWEST_RING + entry_cases.JOIN
-           + entry_cases.NO_JOIN + entry_cases.OWN_BLANK + entry_cases.NO_OWN_BLANK + entry_cases.REFUSED)
+           + entry_cases.NO_JOIN + entry_cases.OWN_BLANK + entry_cases.NO_OWN_BLANK + entry_cases.DRAFT
+           + entry_cases.HELD + entry_cases.REFUSED)
     return difference or lacking(numbers, ENTRY_NUMBERS) or lacking(features, due), (
         f"{len(cases)} cases in one process ({kinds}); answers {counted(numbers)}; good boards"
         f" {having(features, entry_cases.GOOD)}; boards swept {having(features, entry_cases.SWEPT)}; parked pins in"
@@ -98,7 +101,8 @@ def entries(seed):
         f" {having(features, entry_cases.CEILING)}; rings with the fewest nets"
         f" {having(features, entry_cases.FEWEST_RING)}; lists joined {having(features, entry_cases.JOIN)}, and refused"
         f" {having(features, entry_cases.NO_JOIN)}; own blanks {having(features, entry_cases.OWN_BLANK)}, and refused"
-        f" {having(features, entry_cases.NO_OWN_BLANK)}")
+        f" {having(features, entry_cases.NO_OWN_BLANK)}; drafts {having(features, entry_cases.DRAFT)}, and before"
+        f" their calls {having(features, entry_cases.HELD)}")
 
 
 def run(name, part, *arguments):
@@ -126,7 +130,8 @@ def main(arguments):
     seed = arguments[0] if arguments else DEFAULT_SEED
     print(f"seed {seed}", flush=True)
     parts = (("programs", programs), ("entries", entries), ("exhaustive", exhaustive.compare),
-             ("rings", ring_checks.compare), ("panels", panel_checks.compare), ("own blanks", own_checks.compare))
+             ("rings", ring_checks.compare), ("panels", panel_checks.compare), ("drafts", draft_checks.compare),
+             ("own blanks", own_checks.compare))
     results = [run(name, part, seed) for name, part in parts]
     return 0 if all(results) else 1
 

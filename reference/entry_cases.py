@@ -6,6 +6,8 @@ from collections import Counter
 import batch
 import channel
 import crowded_boards
+import draft_lists
+import drafts
 import panel_lists
 import piece_sets
 import random_boards
@@ -21,8 +23,9 @@ import text_cases
 
 # What must be shown by some good board, some good or faulty board of few pieces, some channel or board with parked
 # pins, some text that is read, some text that is garbled, some looks, some ceiling, some answer of the ring with the
-# fewest nets, some two lists that are joined, some that are not, some entry chosen of a table of blanks, and some table
-# that is refused; and the refusals that looks, ceiling, that ring and joining must have.
+# fewest nets, some two lists that are joined, some that are not, some entry chosen of a table of blanks, some table
+# that is refused, some calls to a draft, and some words that it holds before; and the refusals that looks, ceiling,
+# that ring, joining and those calls must have.
 GOOD = ("several trunks a net", "a tangled channel", "copper at an edge place without a pin",
         "copper on a parked pin", "a parked pin without copper")
 SWEPT = ("a range inside another", "ranges that end where the next starts", "equal ranges",
@@ -49,8 +52,14 @@ OWN_BLANK = ("no tracks", "as many tracks as the entry holds", "the first entry 
 NO_OWN_BLANK = ("no entry", "over 64 entries", "a 0 in the place", "a number over 512 in the place",
                 "equal neighbours in the place", "a fall in the place", "tracks just above the last entry",
                 "over 512 tracks and a bad table")
+DRAFT = ("a net that comes again", "one that comes elsewhere", "one that is here and has a bad span",
+         "nets that are cleared", "511 nets", "a count over 255", "a column that is none", "words behind it")
+HELD = ("words of any kind", "a net with gaps", "a mark of number 0", "the greatest in column 1 alone",
+        "the greatest in column 512 alone")  # a net has two columns or more, so that no calls make the last two
 REFUSED = (*(f"refusal {number} of {name}" for name in ("looks", "ceiling", "fewest ring", "join")
-             for number in (3, 4, 5)), "refusal 1 of fewest ring", "refusal 1 of join", "refusal 18 of join")
+             for number in (3, 4, 5)), "refusal 1 of fewest ring", "refusal 1 of join", "refusal 18 of join",
+           *(f"refusal {number} of {name}" for number, names in (
+               (1, drafts.CALLS), (21, ("arrive", "leave")), (22, ("arrive",)), (23, ("leave",))) for name in names))
 SMALL_CHANNELS = [tuple(map(list, rows)) for rows in small_channels.shapes(2)]
 
 
@@ -98,6 +107,33 @@ def fixed_panel_job(_):
         for first, second in ((panel_lists.same(far), panel_lists.A), (panel_lists.same(511), panel_lists.same(far)),
                               (panel_lists.A, ([1, 0], [0, far])), (panel_lists.same(far), panel_lists.same(far))):
             yield batch.join(first, second, 6)
+
+
+def draft_job(rng):
+    """Lists of calls to a draft, many refused; half of them from an empty draft, the others from words of any kind."""
+    for _ in range(80):
+        calls, words = draft_lists.drawn(rng), rng.choice((*(drafts.WORDS,) * 11, 4097, 4104, 5000, 4095, 0))
+        if words < drafts.WORDS or rng.randrange(2):
+            yield batch.draft(calls, rng.randrange(256), words)
+        else:
+            yield batch.draft([draft_lists.GREATEST, *calls], rng.randrange(256), words, *draft_lists.damage(rng))
+
+
+def fixed_draft_job(_):
+    """Lists that were answered by hand, of drafts with nothing behind them, with a word and with a column; words of any
+    kind; and drafts that are short, by a word or by all."""
+    for fill, pairs in enumerate(draft_lists.BY_HAND):
+        calls, _ = draft_lists.split(pairs)
+        yield batch.draft(calls, fill)
+        yield batch.draft(calls, fill, (4097, 4104, 5000)[fill % 3])
+    for held, puts, pairs in draft_lists.DAMAGED:
+        calls, _ = draft_lists.split(pairs)
+        yield batch.draft(calls, 2, drafts.WORDS, held, puts)
+    calls, _ = draft_lists.split(draft_lists.SHORT)
+    for words in (*draft_lists.SHORT_WORDS, drafts.WORDS):
+        for fill in (2, 3):
+            yield batch.draft(calls, fill, words)
+            yield batch.draft(calls, fill, words, batch.FILLED)
 
 
 def table_job(rng):
@@ -252,7 +288,8 @@ def fixed_job(_):
 
 JOBS = ((fixed_job, 1), (small_board_job, 1), (wide_job, 10), (maze_job, 8), (own_board_job, 8), (channel_job, 10),
         (scatter_job, 6), (crowded_job, 6), (fixed_crowded_job, 1), (text_job, 12), (fixed_table_job, 1),
-        (table_job, 4), (fixed_ring_job, 1), (ring_job, 4), (fixed_panel_job, 1), (panel_job, 4))
+        (table_job, 4), (fixed_ring_job, 1), (ring_job, 4), (fixed_panel_job, 1), (panel_job, 4),
+        (fixed_draft_job, 1), (draft_job, 4))
 
 
 def jobs(seed):
@@ -284,6 +321,8 @@ def features(case):
         yield from fewest_ring_features(case)
     if case.kind() == batch.JOIN:
         yield from join_features(case) if case.number() == 0 else no_join_features(case)
+    if case.kind() == batch.DRAFT:
+        yield from draft_features(case)
 
 
 def good_features(case):
@@ -430,3 +469,48 @@ def own_blank_features(case):
                                       number == 16 and tracks == table[-1] + 1,
                                       number == 14 and not channel.is_rising(table))
     yield from (name for name, seen in zip(names, shown) if seen)
+
+
+def draft_features(case):
+    """What a list of calls to a draft shows, each thing once, and its refusals."""
+    told = list(batch.calls_told(case.due))
+    shown = {f"refusal {number} of {name}" for (name, *_), (number, *_) in zip(case.calls(), told) if number}
+    words, held = case.lent()
+    if words >= drafts.WORDS:
+        shown.update(*draft_steps(case, told))
+        if held or case.puts():
+            shown.update(held_features(batch.memory_of(words, case.question[1], held, case.puts())))
+    yield from sorted(shown)
+
+
+def draft_steps(case, told):
+    """What each call of a draft shows, of the nets that have come by calls."""
+    here, gone = {}, {}
+    for (name, *given), (number, value, _) in zip(case.calls(), told):
+        came, counted = name == "arrive" and number == 0, name == "count" and number == 0
+        shown = (came and given[0] in gone, came and gone.get(given[0], given[1:]) != given[1:],
+                 name == "arrive" and number == 21 and given[0] in here, name == "clear" and here, len(here) == 511,
+                 counted and value > 255, counted and not 1 <= given[0] <= 512, case.lent()[0] > drafts.WORDS)
+        yield {word for word, seen in zip(DRAFT, shown) if seen}
+        if number == 0:
+            here, gone = draft_after(name, given, here, gone)
+
+
+def held_features(memory):
+    """What words of any kind show before the calls."""
+    marks = drafts.Marks(memory)
+    counts = [len(numbers) for numbers in marks.columns]
+    places = [[column for column, _ in marks.marked(net)] for net in draft_lists.ABOUT_WORDS]
+    shown = (True, any(columns and columns[-1] - columns[0] >= len(columns) for columns in places), marks.marked(0),
+             counts[0] > max(counts[1:]), counts[-1] > max(counts[:-1]))
+    return {word for word, seen in zip(HELD, shown) if seen}
+
+
+def draft_after(name, given, here, gone):
+    """The nets on the draft and those that have left it, after a call that is not refused."""
+    if name == "arrive":
+        return {**here, given[0]: given[1:]}, gone
+    if name == "leave":
+        left = {net: span for net, span in here.items() if net != given[0]}
+        return left, {**gone, given[0]: here.get(given[0])}
+    return ({}, {**gone, **here}) if name == "clear" else (here, gone)

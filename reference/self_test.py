@@ -5,6 +5,8 @@ from unittest import mock
 
 import batch
 import channel
+import draft_checks
+import draft_lists
 import entry_cases
 import exhaustive
 import form_checks
@@ -21,12 +23,14 @@ import ring_checks
 import small_channels
 import text_cases
 import turned_checks
+import wrong_drafts
 import wrong_own
 import wrong_panels
 
 ROWS = ([0, 1, 2, 3], [1, 2, 0, 3])
 PINS = "TOP 0 1 2 3\nBOT 1 2 0 3"
 FILE = channel.board(text_cases.GOOD)
+DRAFTED, _ = draft_lists.split(draft_lists.SELF)
 # The wrong entries of wrong_parked.c, and the jobs whose cases tell each. The search on small channels tells the
 # routers among them too.
 WRONG_PARKED = {"BLOCKS": ("channel_job",), "DRAWS": ("channel_job",), "COUNTS": ("channel_job",),
@@ -48,6 +52,14 @@ NOT_SMALL = ("ROOM", "LATE")
 WRONG_PANELS = ("COUNT", "TOP_ALONE", "UNPARKED", "ZEROS", "BEFORE", "TANGLED", "SECOND_FIRST", "THROUGH", "LATE_WIDE",
                 "EARLY_WIDE", "COLUMNS", "NARROW", "FIRST_MET", "LAST_MET", "POSITION", "LOW", "HIGH", "WRITTEN",
                 "CLEARED", "ROOM", "LATE")
+# The wrong entries of wrong_drafts.c: the cases of both jobs with drafts tell each, and so do the request's words, but
+# for what no calls make of an empty draft.
+WRONG_DRAFTS = ("ONE_COLUMN", "UNMARKED", "GAP", "WHOLE_WORD", "OVER", "IN_SPAN", "AT_START", "PARTLY", "LAST_WORD",
+                "BYTE", "NO_ZERO", "FIRST_OFF", "LAST_OFF", "EQUAL", "FALLING", "FROM_0", "TO_513", "TO_511",
+                "CUT_COLUMN", "NET_0", "NET_512", "NO_511", "CUT_NUMBER", "LATE_21", "FAR_LEAVE", "CUT_PLACE",
+                "NO_PLACE", "COLUMN_PLACE", "FIRST_WORD", "SHIFT_32", "BESIDE", "ACROSS", "OUTSIDE", "BEHIND",
+                "NEAREST", "CLEAR_SHORT", "CLEAR_ALL", "ASK_WRITES", "ROOM", "MORE_ROOM", "LATE", "ASKS_FREE")
+NOT_FROM_EMPTY = ("GAP", "NO_ZERO", "FIRST_OFF", "LAST_OFF")
 # Two lists, rows that are not theirs joined, and what is then said to be wrong.
 NOT_JOINED = (
     (panel_lists.A, panel_lists.C, ([0, 1, 2, 3, 0, 0], [1, 2, 0, 3, 0, 0]), "tangled"),
@@ -89,18 +101,20 @@ def program_faults(first_difference):
 def entry_questions():
     return [batch.read(text_cases.GOOD), batch.bounds(*ROWS), batch.route(*ROWS), batch.judge(*ROWS, FILE),
             batch.blank(9), batch.looks(*ROWS), batch.ceiling(*ROWS), batch.own_blank([8, 12], 9),
-            batch.fewest_ring(*ROWS), batch.join(ROWS, ([1, 2], [2, 1])), batch.route([1, 2], [2, 1]),
-            batch.fewest_ring([1, 2], [2, 1]), batch.join(([1, 2], [2, 1]), ROWS)]
+            batch.fewest_ring(*ROWS), batch.join(ROWS, ([1, 2], [2, 1])), batch.draft(DRAFTED, puts={9: 33}),
+            batch.route([1, 2], [2, 1]), batch.fewest_ring([1, 2], [2, 1]), batch.draft(DRAFTED),
+            batch.join(([1, 2], [2, 1]), ROWS)]
 
 
 def entry_faults(first_difference):
     cases = entry_questions()
     shown = [case.shown() for case in cases]
     if (any(PINS not in shown[i] for i in (1, 2, 3, 5, 6, 8, 9, -1)) or FILE.hex() not in shown[3]
-            or "8 12" not in shown[7] or any("TOP 1 2\nBOT 2 1" not in shown[i] for i in (9, -1))):
+            or "8 12" not in shown[7] or any("TOP 1 2\nBOT 2 1" not in shown[i] for i in (9, -1))
+            or "word 9: 21\narrive 5 2 4, arrive 5 1 2, " not in shown[10]):
         yield "an entry's input is not shown"
     yield from wrong_dues(cases, batch.answers([case.question for case in cases]), first_difference)
-    missing = batch.answers([cases[0].question, b"\x0a" + bytes(batch.HEADER.size - 1), cases[1].question])
+    missing = batch.answers([cases[0].question, b"\x0b" + bytes(batch.HEADER.size - 1), cases[1].question])
     if len(missing) != 3 or missing[0] != cases[0].due or "no answer" not in missing[1]:
         yield "a batch program that ends too soon is not told"
 
@@ -112,8 +126,10 @@ def buffer_faults():
     due = ["0 1 top 0 kept bot 0 changed 2048 inputs kept", "0 0 inputs changed",
            "7 1 ring 1 2 changed 8 board changed -1 inputs kept", "0 2 scratch changed 20476 inputs kept",
            "14 9 inputs kept", "0 1 inputs changed", "0 3 inputs changed", "16 9 inputs changed",
-           "0 1 ring 3 4 changed 8 inputs kept", "0 1 top 5 changed 4 bot 5 kept inputs changed"]
-    for line, wanted in zip(batch.answers([case.question for case in entry_questions()[:10]], program), due):
+           "0 1 ring 3 4 changed 8 inputs kept", "0 1 top 5 changed 4 bot 5 kept inputs changed",
+           "0 5 0:2:ff 1:1:ff, 0 5, 0 512, 0 3 0:1:ff, 0 1 1:1:ff, 23 5 4095:1:ff00000000000000,"
+           " 23 5 4095:1:ff00000000000000, 0 0 draft changed 32768 inputs kept"]
+    for line, wanted in zip(batch.answers([case.question for case in entry_questions()[:11]], program), due):
         if line != wanted:
             yield f"a spoilt byte is told as '{line}', due '{wanted}'"
 
@@ -230,6 +246,45 @@ def panel_entry_faults(first_difference):
         if wrong in ("NOTHING", "COUNT", "UNPARKED"):  # others come out the same in either grouping
             found["three lists"] = next(panel_checks.three_differences(
                 threes, lambda pairs: panel_checks.entry_joined(pairs, program)), None)
+        for name, told in found.items():
+            if (told is None) != (wrong == "NOTHING") or "no answer" in str(told) or "broken: nothing" in str(told):
+                yield f"the wrong entry {wrong} is not found by {name}, or a right one is called wrong: {told}"
+
+
+def draft_faults():
+    """Programs that get a draft wrong, by the request's words; and lines of entries that change other words than they
+    should, or under a refusal."""
+    lists = draft_lists.by_hand()
+    with wrong_drafts.program():
+        if list(draft_checks.differences(lists)):
+            yield "a right draft is called wrong"
+    for name, slip in wrong_drafts.SLIPS.items():
+        with wrong_drafts.program(**slip):
+            if not any("broken" in fault for fault, _ in draft_checks.differences(lists)):
+                yield f"a program that gets a draft wrong is not found: {name}"
+    calls, right = [draft_lists.arrive(5, 2, 3), draft_lists.leave(7)], "0 0 8:2:20, 23 7 draft kept inputs kept"
+    if draft_checks.words_fault(calls, batch.calls_told(right)):
+        yield "the right words of a draft are called wrong"
+    for wrong in ("0 0 8:1:20, 23 7", "0 0 8:2:40, 23 7", "0 0 8:3:20, 23 7", "0 0, 23 7", "0 0 8:2:20, 23 7 0:1:80"):
+        if not draft_checks.words_fault(calls, batch.calls_told(f"{wrong} draft kept inputs kept")):
+            yield f"wrong words of a draft are not found: {wrong}"
+
+
+def draft_entry_faults(first_difference):
+    """Entries that get them wrong, on cases made by hand, on cases as they are drawn, and by the request's words or on
+    words of any kind."""
+    asked, damaged = draft_checks.cases_of(draft_lists.by_hand()), draft_checks.damaged_cases("self-test", 20)
+    program = batch.PROGRAM.with_name("batch_drafts")
+    jobs = {job: entry_cases.made(("self-test", job, 0))[0] for job in ("fixed_draft_job", "draft_job")}
+    for wrong in ("NOTHING", *WRONG_DRAFTS):
+        batch.build(program=program, source="wrong_drafts.c", flags=[f"-DWRONG={wrong}"])
+        found = {}
+        if wrong not in NOT_FROM_EMPTY:
+            found["the request's words"] = next(draft_checks.entry_differences(asked, program), None)
+        if wrong in ("NOTHING", *NOT_FROM_EMPTY):
+            found["words of any kind"] = next(draft_checks.damaged_differences(damaged, program), None)
+        for job, cases in jobs.items():
+            found[job] = first_difference(cases, batch.answers([case.question for case in cases], program))
         for name, told in found.items():
             if (told is None) != (wrong == "NOTHING") or "no answer" in str(told) or "broken: nothing" in str(told):
                 yield f"the wrong entry {wrong} is not found by {name}, or a right one is called wrong: {told}"
@@ -387,17 +442,19 @@ def reader_faults(first_difference):
 def compare(first_difference, lacking):
     """The first fault of the comparison, or None; and what was tried, in words."""
     faults = [*form_checks.faults(), *looks_checks.faults(), *ring_checks.faults(), *panel_checks.faults(),
-              *program_faults(first_difference), *entry_faults(first_difference), *buffer_faults(), *search_faults(),
-              *parked_entry_faults(first_difference), *looks_entry_faults(first_difference),
-              *ring_entry_faults(first_difference), *panel_faults(), *panel_entry_faults(first_difference),
-              *own_faults(), *own_entry_faults(first_difference),
-              *sweep_entry_faults(first_difference), *turned_faults(), *turned_entry_faults(),
-              *parked_record_faults(first_difference), *reader_faults(first_difference)]
+              *draft_checks.faults(), *program_faults(first_difference), *entry_faults(first_difference),
+              *buffer_faults(), *search_faults(), *parked_entry_faults(first_difference),
+              *looks_entry_faults(first_difference), *ring_entry_faults(first_difference), *panel_faults(),
+              *panel_entry_faults(first_difference), *draft_faults(), *draft_entry_faults(first_difference),
+              *own_faults(), *own_entry_faults(first_difference), *sweep_entry_faults(first_difference),
+              *turned_faults(), *turned_entry_faults(), *parked_record_faults(first_difference),
+              *reader_faults(first_difference)]
     if lacking({1, 2}, {1, 2, 3}) is None or lacking({1, 2}, {1, 2}):
         faults.append("a number that is never answered is not told")
     return faults[0] if faults else None, (
         "the form is as its states say, looks as they are counted one by one, the ring with the fewest nets that of all"
-        " rings, and lists joined by hand as they are joined; wrong answers of programs and entries, spoilt buffers, a"
-        " wrong search, readers that get spaces or line ends wrong, records, copper, steps, density and a judge that"
-        " get parked pins wrong, wrong looks and ceilings, wrong rings, wrong panels, wrong choices of own blanks,"
-        " judges that get a sweep of lines wrong, and what gets a board turned over wrong are found and shown")
+        " rings, lists joined by hand as they are joined, and calls to a draft answered by hand as they are answered;"
+        " wrong answers of programs and entries, spoilt buffers, a wrong search, readers that get spaces or line ends"
+        " wrong, records, copper, steps, density and a judge that get parked pins wrong, wrong looks and ceilings,"
+        " wrong rings, wrong panels, wrong drafts, wrong choices of own blanks, judges that get a sweep of lines wrong,"
+        " and what gets a board turned over wrong are found and shown")

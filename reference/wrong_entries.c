@@ -96,3 +96,41 @@ uint64_t cabjirt_own_blank(const uint32_t *table, size_t table_length, uint32_t 
     spoil((uint32_t *)table, (ptrdiff_t)(table_length * sizeof *table) - 1);
     return told(16, tracks);
 }
+
+/* A draft cleared by the byte after its words. */
+uint64_t cabjirt_draft_clear(uint64_t *words, size_t words_length)
+{
+    spoil(words, (ptrdiff_t)(words_length * sizeof *words));
+    return told(0, 0);
+}
+
+/* Two words of one column and one of the next. */
+uint64_t cabjirt_draft_arrive(uint64_t *words, size_t words_length, uint32_t number, uint32_t first, uint32_t last)
+{
+    (void)words_length, (void)first, (void)last;
+    words[0] = words[1] = words[8] = 255;
+    return told(0, number);
+}
+
+/* A changed word under a refusal. */
+uint64_t cabjirt_draft_leave(uint64_t *words, size_t words_length, uint32_t number)
+{
+    spoil(words, (ptrdiff_t)(words_length * sizeof *words) - 1);
+    return told(23, number);
+}
+
+/* A changed draft. */
+uint64_t cabjirt_draft_count(const uint64_t *words, size_t words_length, uint32_t column)
+{
+    (void)words_length;
+    spoil((uint64_t *)words, 0);
+    return told(0, column);
+}
+
+/* The same. */
+uint64_t cabjirt_draft_greatest(const uint64_t *words, size_t words_length)
+{
+    (void)words_length;
+    spoil((uint64_t *)words, 8);
+    return told(0, 1);
+}

@@ -399,6 +399,152 @@ static void bad_tables(void)
     expect("the largest number", cabjirt_own_blank((const uint32_t[]){5, UINT32_MAX}, 2, 1), 15, 2);
 }
 
+/* A draft with a column more behind it, and what both should hold. */
+enum { EIGHT = CABJIRT_DRAFT / CABJIRT_ROW };
+static uint64_t words[CABJIRT_DRAFT + EIGHT], words_due[CABJIRT_DRAFT + EIGHT];
+
+/* All words of the draft and of its neighbour hold a byte again and again. */
+static void fill_draft(int byte)
+{
+    memset(words, byte, sizeof words);
+    memset(words_due, byte, sizeof words_due);
+}
+
+/* What the words should hold changes by the mark of a net in the columns from one to another. */
+static void change_due(uint32_t net, uint32_t from, uint32_t to)
+{
+    for (uint32_t column = from; column <= to; column++)
+        words_due[(column - 1) * EIGHT + net / 64] ^= (uint64_t)1 << net % 64;
+}
+
+static void expect_draft(const char *what, uint64_t got, uint32_t number, uint32_t value)
+{
+    expect(what, got, number, value);
+    expect_same(what, words, words_due, sizeof words);
+}
+
+static uint64_t arrive(uint32_t number, uint32_t first, uint32_t last)
+{
+    return cabjirt_draft_arrive(words, CABJIRT_DRAFT, number, first, last);
+}
+
+static uint64_t leave(uint32_t number) { return cabjirt_draft_leave(words, CABJIRT_DRAFT, number); }
+
+static uint64_t count(uint32_t column) { return cabjirt_draft_count(words, CABJIRT_DRAFT, column); }
+
+static uint64_t greatest(void) { return cabjirt_draft_greatest(words, CABJIRT_DRAFT); }
+
+/* Clears a draft and what should be in it; the column behind stays as it was. */
+static void clear_draft(void)
+{
+    fill_draft(0x77);
+    memset(words_due, 0, CABJIRT_DRAFT * sizeof *words);
+    expect_draft("a clear draft", cabjirt_draft_clear(words, CABJIRT_DRAFT), 0, 0);
+    expect_draft("no nets", greatest(), 0, 0);
+}
+
+static void drafting(void)
+{
+    static const uint32_t nets[] = {1, 31, 32, 63, 64, 127, 128, 448, 511};
+    enum { NETS = sizeof nets / sizeof *nets };
+    clear_draft();
+    for (uint32_t i = 0; i < NETS; i++) {
+        change_due(nets[i], 1 + i, 512 - i);
+        expect_draft("a net arrives", arrive(nets[i], 1 + i, 512 - i), 0, 0);
+        expect_draft("the greatest", greatest(), 0, i + 1);
+        expect_draft("the first column", count(1), 0, 1);
+        expect_draft("its first column", count(1 + i), 0, i + 1);
+        expect_draft("its last column", count(512 - i), 0, i + 1);
+        expect_draft("it arrives again", arrive(nets[i], 1, 2), 22, nets[i]);
+    }
+    for (uint32_t i = 0; i < NETS; i++) {
+        change_due(nets[i], 1 + i, 512 - i);
+        expect_draft("a net leaves", leave(nets[i]), 0, 0);
+        expect_draft("the last column", count(512), 0, 0);
+        expect_draft("its neighbour's first column", count(2 + i), 0, i + 1 < NETS);
+        expect_draft("the fewer greatest", greatest(), 0, NETS - 1 - i);
+        expect_draft("it leaves again", leave(nets[i]), 23, nets[i]);
+    }
+    change_due(511, 511, 512);
+    expect_draft("a net comes elsewhere", arrive(511, 511, 512), 0, 0);
+    expect_draft("column 510", count(510), 0, 0);
+    expect_draft("column 512", count(512), 0, 1);
+    clear_draft();
+}
+
+/* Numbers and columns that are none, on a draft where net 5 is in columns 10 to 20. */
+static void not_drafting(void)
+{
+    static const uint32_t odd[] = {0, 512, 513, 600, 65541, 2147483653u, UINT32_MAX};
+    static const uint32_t spans[][2] = {{0, 1}, {1, 1}, {10, 10}, {2, 1}, {512, 512}, {512, 513}, {1, 513}, {0, 512},
+                                        {65546, 65547}, {1, 65546}, {1, UINT32_MAX}, {UINT32_MAX, 1}};
+    clear_draft();
+    change_due(5, 10, 20);
+    expect_draft("net 5", arrive(5, 10, 20), 0, 0);
+    for (size_t i = 0; i < sizeof odd / sizeof *odd; i++) {
+        expect_draft("no net arrives", arrive(odd[i], 1, 2), 21, odd[i]);
+        expect_draft("no net leaves", leave(odd[i]), 21, odd[i]);
+        expect_draft("no column", count(odd[i]), 0, 0);
+    }
+    for (size_t i = 0; i < sizeof spans / sizeof *spans; i++) {
+        expect_draft("a bad span", arrive(6, spans[i][0], spans[i][1]), 21, 6);
+        expect_draft("a bad span of a net that is here", arrive(5, spans[i][0], spans[i][1]), 21, 5);
+    }
+    expect_draft("here, and away from the new span", arrive(5, 30, 40), 22, 5);
+    expect_draft("here, and before it", arrive(5, 1, 9), 22, 5);
+    expect_draft("here, and within it", arrive(5, 1, 512), 22, 5);
+    expect_draft("not here", leave(69), 23, 69);
+    expect_draft("the greatest is as it was", greatest(), 0, 1);
+}
+
+/* Every call refuses a draft that is a word short, or none, before all else. */
+static void short_drafts(void)
+{
+    static const size_t lengths[] = {0, 1, CABJIRT_DRAFT - 1};
+    fill_draft(0x33);
+    for (size_t i = 0; i < sizeof lengths / sizeof *lengths; i++) {
+        uint64_t *lent = lengths[i] == 0 ? NULL : words;
+        expect_draft("clear", cabjirt_draft_clear(lent, lengths[i]), 1, CABJIRT_DRAFT);
+        expect_draft("arrive", cabjirt_draft_arrive(lent, lengths[i], 1, 1, 2), 1, CABJIRT_DRAFT);
+        expect_draft("arrive, bad", cabjirt_draft_arrive(lent, lengths[i], 0, 2, 1), 1, CABJIRT_DRAFT);
+        expect_draft("leave", cabjirt_draft_leave(lent, lengths[i], 1), 1, CABJIRT_DRAFT);
+        expect_draft("leave, bad", cabjirt_draft_leave(lent, lengths[i], 512), 1, CABJIRT_DRAFT);
+        expect_draft("count", cabjirt_draft_count(lent, lengths[i], 1), 1, CABJIRT_DRAFT);
+        expect_draft("count of none", cabjirt_draft_count(lent, lengths[i], 0), 1, CABJIRT_DRAFT);
+        expect_draft("greatest", cabjirt_draft_greatest(lent, lengths[i]), 1, CABJIRT_DRAFT);
+    }
+}
+
+/* Words that no calls make of an empty draft: all bits set, then single marks of net 9 in columns 1, 3, 400 and 512. */
+static void damaged_drafts(void)
+{
+    fill_draft(0xFF);
+    expect_draft("all bits", greatest(), 0, 512);
+    expect_draft("all bits of a column", cabjirt_draft_count(words, CABJIRT_DRAFT + EIGHT, 512), 0, 512);
+    expect_draft("no column behind", cabjirt_draft_count(words, CABJIRT_DRAFT + EIGHT, 513), 0, 0);
+    expect_draft("net 5 is everywhere", arrive(5, 1, 2), 22, 5);
+    change_due(5, 1, 512);
+    expect_draft("and leaves", leave(5), 0, 0);
+    change_due(5, 511, 512);
+    expect_draft("and arrives", arrive(5, 511, 512), 0, 0);
+    expect_draft("column 510 of all but one", count(510), 0, 511);
+    memset(words_due, 0, CABJIRT_DRAFT * sizeof *words);
+    expect_draft("clear", cabjirt_draft_clear(words, CABJIRT_DRAFT + EIGHT), 0, 0);
+    words[EIGHT - 1] = words_due[EIGHT - 1] = 7;
+    expect_draft("the greatest in column 1 alone", greatest(), 0, 3);
+    words[EIGHT - 1] = 0;
+    words[0] = words[2 * EIGHT] = words[399 * EIGHT] = 1 << 9;
+    words[511 * EIGHT] = 1 << 9 | 1; /* number 0, which is no net, is marked there too */
+    memcpy(words_due, words, sizeof words);
+    expect_draft("single marks, and that of 0", greatest(), 0, 2);
+    expect_draft("here in some columns", arrive(9, 100, 101), 22, 9);
+    memset(words_due, 0, CABJIRT_DRAFT * sizeof *words);
+    words_due[511 * EIGHT] = 1;
+    expect_draft("leaves each of them", leave(9), 0, 0);
+    expect_draft("0 is left", count(512), 0, 1);
+    expect_draft("and can't leave", leave(0), 21, 0);
+}
+
 int main(void)
 {
     reading();
@@ -415,6 +561,10 @@ int main(void)
     blanks();
     own_blanks();
     bad_tables();
+    drafting();
+    not_drafting();
+    short_drafts();
+    damaged_drafts();
     printf("C entries: %d passed, %d failed\n", passed, failed);
     return failed != 0;
 }

@@ -46,3 +46,12 @@ unfoldable pub besideWhole : List ℕ → Bool
 besideWhole bytes =
     let size = numberAt bytes 0 in
     leb 2 (length bytes) && (leb (2 + size) (length bytes) && rowsWhole (take size (drop 2 bytes)))
+
+-- so many calls on a draft, each of a kind up to 4
+unfoldable pub callsWhole : List ℕ → ℕ → Bool
+callsWhole bytes count = allOf (λ i. leb (numberAt bytes (2 + 8 * i)) 4) (from 0 count)
+
+-- a question about a draft: how many words are lent, at most 4,104, and the calls
+unfoldable pub draftWhole : List ℕ → Bool
+draftWhole bytes =
+    leb 2 (length bytes) && (leb (numberAt bytes 0) 4104 && callsWhole bytes ((length bytes - 2) / 8))

@@ -3,6 +3,7 @@
 // length, and so many bytes. A case that lacks bytes, or is of no kind, is cut, and ends the answers.
 mod boards;
 mod channels;
+mod drafts;
 mod output;
 mod panels;
 mod rows;
@@ -25,6 +26,7 @@ fn answer(kind: u8, bytes: &[u8]) -> bool {
         9 => channels::answer_own(bytes),
         10 => channels::answer_fewest(bytes),
         11 => channels::answer_join(bytes),
+        12 => drafts::answer_draft(bytes),
         _ => false,
     }
 }

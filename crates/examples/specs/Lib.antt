@@ -2,3 +2,4 @@ pub mod Starred
 pub mod OwnBlanks
 pub mod FewestRings
 pub mod Panels
+pub mod Drafts
