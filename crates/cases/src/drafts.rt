@@ -46,7 +46,10 @@ fn make_call(words: &mut [u64], kind: u32, n: u32, first: u32, last: u32) -> boo
 {
     match kind {
         0 => put_changed(b"CLEAR", draft::clear(words)),
-        1 => put_changed(b"ARRIVE", draft::arrive(words, Net(n), Column(first), Column(last))),
+        1 => put_changed(
+            b"ARRIVE",
+            draft::arrive(words, Net(n), Column(first), Column(last)),
+        ),
         2 => put_changed(b"LEAVE", draft::leave(words, Net(n))),
         3 => put_counted(b"COUNT", draft::count(words, Column(n))),
         4 => put_counted(b"GREATEST", draft::greatest(words)),

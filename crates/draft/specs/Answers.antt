@@ -16,13 +16,13 @@ use Rattle.draft.specs.declared.DraftAnswer.{DraftAnswer}
 use Rattle.draft.specs.declared.DraftAnswer.the-variants as change
 use Rattle.draft.specs.declared.CountAnswer.{CountAnswer}
 use Rattle.draft.specs.declared.CountAnswer.the-variants as ask
-use Rattle.draft.specs.Marks.{isHere, countOf, greatestOf, arrivedIn, leftFrom, cleared}
+use Rattle.draft.specs.Marks.{isHere, arrivedIn, leftFrom, cleared}
 
--- "a number outside 1 to 511": of those that are not
+-- 21 is "for a number outside 1 to 511 or columns not rising within 1 to 512": a number inside
 abbrev pub goodNumber : ℕ → Bool
 goodNumber n = within 1 n highestNet
 
--- "or columns not rising within 1 to 512": of those that are
+-- and with it columns that rise there
 abbrev pub goodSpan : ℕ → ℕ → ℕ → Bool
 goodSpan n first last = goodNumber n && (leb 1 first && (ltb first last && leb last widest))
 

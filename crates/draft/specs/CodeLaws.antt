@@ -1,17 +1,17 @@
 -- The code's sums and loops give what the definitions say: four words and four more are eight; a column more is looked
 -- at or changed in each turn, before which its word is as it was.
-use Prim.Native.Nat.{ℕ, suc, max, _+_, _-_, _*_, _/_, _%_, _≤_, _<_}
+use Prim.Native.Nat.{ℕ, suc, _+_, _-_, _/_, _%_, _≤_, _<_}
 use native.Mathlib.Omega.{arith}
 use native.Mathlib.Numerals.{add-one}
 use mathlib.Core.Path.{_≡_, refl, sym, _∙_, ap}
-use mathlib.Core.List.{List, [], _∷_, _++_, map}
+use mathlib.Core.List.{List, [], _∷_, _++_}
 use mathlib.Core.Logic.{⊎-elim}
-use mathlib.Core.Bool.{Bool, false, cond, _||_, or-false, or-assoc}
-use lib.ListN.{length, getD, set, take, drop, length-replicate, getD-replicate}
+use mathlib.Core.Bool.{Bool, false, cond}
+use lib.ListN.{length, getD, set, take, drop}
 use lib.Seq.{drop-cons, take-add, drop-drop}
 use lib.Count.{ones}
 use lib.Dec.{T, eqb, eqb→eq}
-use Rattle.lists.specs.Lists.{anyOf, from, upTo, greatest, within}
+use Rattle.lists.specs.Lists.{within}
 use Rattle.lists.specs.Tests.{T→true, eq→T, fails→false, false→fails, same-test, passes?}
 use Rattle.lists.specs.Tests.{and-left, and-right, and-both, within→, →within}
 use Rattle.lists.specs.Members.{member→any, in-upTo}
@@ -30,7 +30,6 @@ use Rattle.draft.specs.Marks.{
   countOf,
   isWordOf,
   changed,
-  zeros,
   leftFrom,
 }
 use Rattle.draft.specs.BitLaws.{unset-same}
@@ -94,7 +93,8 @@ module _ (f : ℕ → ℕ) (n first : ℕ) (words : List ℕ) where
   changed-word last i t = rw (T→true (isWordOf n first last i) t)
 
   -- where each word is kept or stays as it is, the memory is as it was
-  all-kept : (last : ℕ) → ((i : ℕ) → i < length words → T (isWordOf n first last i) → f (getD words i 0) ≡ getD words i 0)
+  all-kept : (last : ℕ)
+      → ((i : ℕ) → i < length words → T (isWordOf n first last i) → f (getD words i 0) ≡ getD words i 0)
       → changed f n first last words ≡ words
   unfolding changed
   all-kept last h =

@@ -3,21 +3,19 @@ use Prim.Native.Nat.{ℕ, _≤_, _<_}
 use native.Mathlib.Omega.{arith}
 use mathlib.Core.Path.{_≡_, refl, sym, _∙_, ap}
 use mathlib.Core.List.{List, [], _∷_, _++_}
-use mathlib.Core.Option.{Option, none, some}
+use mathlib.Core.Option.{none, some}
 use lib.ListN.{length}
 use Rattle.refusal.specs.declared.Refusal.{Refusal}
 use Rattle.refusal.specs.declared.Refusal.the-variants.{ShortTray}
 use Rattle.refusal.specs.Refusals.{answered}
 use Rattle.refusal.specs.Trays.{draftTray}
 use Rattle.draft.specs.declared.DraftAnswer.the-variants as change
-use Rattle.draft.specs.declared.CountAnswer.{CountAnswer}
 use Rattle.draft.specs.declared.CountAnswer.the-variants as ask
-use Rattle.draft.specs.Marks.{marked, countOf, greatestOf, arrivedIn, leftFrom, cleared}
-use Rattle.draft.specs.Answers.{shortDraft, arriveRefusal, leaveRefusal, changeAnswer, askAnswer, unless}
+use Rattle.draft.specs.Marks.{countOf, greatestOf, arrivedIn, leftFrom, cleared}
+use Rattle.draft.specs.Answers.{arriveRefusal, leaveRefusal, unless}
 use Rattle.draft.specs.Answers.{arriveAfter, leaveAfter, clearAfter}
-use Rattle.draft.specs.History.{Call, arrive, leave, clear, afterCall, afterCalls, netsHere, spanCount}
-use Rattle.draft.specs.History.{spanGreatest, Empty}
-use Rattle.draft.specs.Code.{LongDraft, IsColumn, GoesOn, After, ArriveDone, LeaveDone, CountDone, GreatestDone}
+use Rattle.draft.specs.History.{Call, arrive, leave, clear, afterCall, afterCalls}
+use Rattle.draft.specs.Code.{LongDraft, GoesOn, After, ArriveDone, LeaveDone, CountDone, GreatestDone}
 use Rattle.draft.specs.Code.{ClearDone}
 use Rattle.draft.specs.AnswerLaws.{long-silent, short-told}
 use Rattle.draft.specs.MarkLaws.{Words64, cleared-empty}

@@ -5,7 +5,7 @@ use native.Mathlib.Omega.{arith}
 use mathlib.Core.Path.{_≡_, refl, _∙_, ap, ap₂}
 use mathlib.Core.List.{List, [], _∷_}
 use mathlib.Core.Bool.{Bool, true, false, cond, not, _&&_}
-use mathlib.Core.Option.{Option, none}
+use mathlib.Core.Option.{Option}
 use lib.Dec.{T, leb, ltb, eqb→eq, leb→le, ltb→lt}
 use Rattle.lists.specs.Lists.{keep, anyOf, upTo, greatest}
 use Rattle.lists.specs.Tests.{true→T, fails→false, false→fails, and-left, and-right, and-both, not-passes, not-fails}

@@ -2,12 +2,11 @@
 use Prim.Native.Nat.{ℕ}
 use mathlib.Core.Path.{_≡_, refl, _∙_}
 use mathlib.Core.List.{List, [], _∷_, _++_, map}
-use mathlib.Core.Bool.{true, not}
-use mathlib.Core.Option.{none}
+use mathlib.Core.Bool.{true}
 use lib.ListN.{replicate}
 use lib.Count.{ones}
 use Rattle.lists.specs.Lists.{keep, anyOf, allOf, from, greatest}
-use Rattle.refusal.specs.Refusals.{toldAt, toldValues, refuseIf, _or-else_, answered}
+use Rattle.refusal.specs.Refusals.{toldValues, refuseIf, _or-else_, answered}
 use Rattle.refusal.specs.Trays.{draftTray}
 use Rattle.channel.specs.Density.{spansOver}
 use Rattle.draft.specs.Marks.{isSet, withMark, withoutMark, marked, marksOf, countOf, changed, zeros}
@@ -52,15 +51,15 @@ pub drafts :
     ∷ [])
     ≡ true
 unfolding
-    keep anyOf allOf from greatest refuseIf _or-else_ answered spansOver arrivalRefusal leavingRefusal draftTold countTold
-    netsAfter netsAfterCalls spanCount spanGreatest netsTold
+    keep anyOf allOf from greatest refuseIf _or-else_ answered spansOver
+    arrivalRefusal leavingRefusal draftTold countTold netsAfter netsAfterCalls spanCount spanGreatest netsTold
 drafts = refl
 
 -- so 4,096 words that were 0 are told the same after these calls
 pub held : callTold (afterCalls (zeros draftTray) again) whole ≡ toldValues (1 ∷ [])
 unfolding
-    keep anyOf from greatest refuseIf _or-else_ answered spansOver arrivalRefusal leavingRefusal countTold
-    netsAfter netsAfterCalls spanCount spanGreatest netsTold
+    keep anyOf from greatest refuseIf _or-else_ answered spansOver
+    arrivalRefusal leavingRefusal countTold netsAfter netsAfterCalls spanCount spanGreatest netsTold
 held = history-of-zeros again .answers whole ∙ refl
 
 -- the words of three columns: net 69 has digit 5 of each column's second word

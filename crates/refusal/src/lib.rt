@@ -44,8 +44,8 @@ pub enum Refusal {
     NoStock(usize),
     // 18: on a panel a raised net number is over 511; the lowest such number
     PanelFull(usize),
-    // 21: a net that comes or goes on a draft has no number of 1 to 511, or its columns do not rise within 1 to 512; the
-    // net number
+    // 21: a net that comes or goes on a draft has no number of 1 to 511, or its columns do not rise within 1 to 512;
+    // the net number
     BadSpan(usize),
     // 22: a net that comes is on the draft; the net number
     AlreadyHere(usize),

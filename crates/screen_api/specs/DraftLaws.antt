@@ -1,8 +1,8 @@
 -- The number that C reads of a call on a draft is what was answered, and so what the nets on the draft say.
 use Prim.Native.Nat.{ℕ, _≤_, _<_}
 use native.Mathlib.Omega.{arith}
-use mathlib.Core.Path.{_≡_, refl, sym, _∙_, ap, subst}
-use mathlib.Core.List.{List, [], _∷_}
+use mathlib.Core.Path.{_≡_, refl, _∙_, ap, subst}
+use mathlib.Core.List.{List}
 use mathlib.Core.Option.{Option, none, some}
 use Rattle.refusal.specs.declared.Refusal.{Refusal}
 use Rattle.refusal.specs.Refusals.{Told, answered}
@@ -12,9 +12,8 @@ use Rattle.draft.specs.declared.DraftAnswer.the-variants as change
 use Rattle.draft.specs.declared.CountAnswer.{CountAnswer}
 use Rattle.draft.specs.declared.CountAnswer.the-variants as ask
 use Rattle.draft.specs.Answers.{shortDraft, changeAnswer, askAnswer, draftTold, countTold}
-use Rattle.draft.specs.Answers.{arriveRefusal, leaveRefusal, arriveAfter, leaveAfter, clearAfter}
-use Rattle.draft.specs.History.{Call, arrive, leave, count, whole, clear, afterCall, afterCalls, callTold, netsTold}
-use Rattle.draft.specs.Code.{GoesOn, After, Few, ArriveDone, LeaveDone, CountDone, GreatestDone, ClearDone}
+use Rattle.draft.specs.History.{Call, arrive, leave, count, whole, clear, afterCall, callTold}
+use Rattle.draft.specs.Code.{GoesOn, Few, ArriveDone, LeaveDone, CountDone, GreatestDone, ClearDone}
 use Rattle.draft.specs.AnswerLaws.{Below, below-short, arrive-below, leave-below}
 use Rattle.draft.specs.HistoryLaws.{history}
 use Rattle.screen_api.specs.Numbers.{packed, entryNumber}

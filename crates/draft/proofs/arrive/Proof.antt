@@ -18,7 +18,8 @@ returns-2 c = c .before .before .arrive-good .ensures
 
 returns-3 : tie.Need-returns-3
 returns-3 c =
-    arrive-refused _ _ _ _ (arrive-bad _ _ _ _ (omega arith) (sym (c .before .before .is-span .ensures) ∙ c .before .if2 .left))
+    let k = c .before in
+    arrive-refused _ _ _ _ (arrive-bad _ _ _ _ (omega arith) (sym (k .before .is-span .ensures) ∙ k .if2 .left))
 
 pub arrive-spec : {M : Type 1} → statement M
 arrive-spec =

@@ -17,9 +17,10 @@ is-here-requires c κs =
 
 returns : tie.Need-returns
 returns c =
-    let start = c .before .before .before .before .before in
+    let k = c .before in
+    let start = k .before .before .before .before in
     arrive-refused _ _ _ _
-    (arrive-here _ _ _ _ (start .pre .0) (start .pre .1) (sym (c .before .before .is-here .ensures) ∙ c .before .if1 .taken))
+    (arrive-here _ _ _ _ (start .pre .0) (start .pre .1) (sym (k .before .is-here .ensures) ∙ k .if1 .taken))
 
 mark-span-requires : tie.Need-mark-span-requires
 mark-span-requires c κs =
@@ -38,4 +39,5 @@ returns-2 c =
 pub arrive-good-spec : {M : Type 1} → statement M
 arrive-good-spec =
     tie.close
-    (tie.spec is-here-requires (λ c. search needs) (λ c. search needs) returns mark-span-requires (λ c. search needs) returns-2)
+    (tie.spec is-here-requires (λ c. search needs) (λ c. search needs) returns mark-span-requires (λ c. search needs)
+    returns-2)

@@ -18,10 +18,11 @@ marks-of-requires c κs = (omega arith, within→ 1 _ widest (true→T _ (c .if2
 
 returns-2 : tie.Need-returns-2
 returns-2 c =
-    let start = c .before .before .before .before .before .before in
+    let first = c .before .before .before .before .before in
+    let start = first .before in
     let inside = within→ 1 (start .args .c .0) widest (true→T _ (c .before .if2 .taken)) in
     let k = c .marks-of .ensures in
-    count-done _ _ (omega arith) (λ i below. c .before .before .before .before .before .shared-slice-known .given i .fits)
+    count-done _ _ (omega arith) (λ i below. first .shared-slice-known .given i .fits)
     (k .0 ∙ sym (count-inside _ _ (inside .0) (inside .1))) (k .1)
 
 returns-3 : tie.Need-returns-3

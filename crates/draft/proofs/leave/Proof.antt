@@ -18,7 +18,8 @@ returns-2 c = c .before .before .leave-good .ensures
 
 returns-3 : tie.Need-returns-3
 returns-3 c =
-    leave-refused _ _ (leave-bad _ _ (omega arith) (sym (c .before .before .is-number .ensures) ∙ c .before .if2 .left)) refl
+    let k = c .before in
+    leave-refused _ _ (leave-bad _ _ (omega arith) (sym (k .before .is-number .ensures) ∙ k .if2 .left)) refl
 
 pub leave-spec : {M : Type 1} → statement M
 leave-spec =

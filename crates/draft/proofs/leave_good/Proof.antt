@@ -1,6 +1,5 @@
 -- `draft::leave_good` meets its contract, by that of `take_out`: where the mark was in no column, the words are as they
 -- were.
-use native.Mathlib.Omega.{arith}
 use mathlib.Core.Path.{sym, _∙_}
 use borrow.Author.Needs.{needs}
 use Rattle.lists.specs.Tests.{true→T, within→}
@@ -12,7 +11,8 @@ use Rattle.draft.proofs.leave_good.Statement.{statement}
 use Rattle.draft.proofs.leave_good.Tie as tie
 
 take-out-requires : tie.Need-take-out-requires
-take-out-requires c κs = let start = c .before .before in (start .pre .0, within→ 1 _ highestNet (true→T _ (start .pre .1)) .1)
+take-out-requires c κs =
+    let start = c .before .before in (start .pre .0, within→ 1 _ highestNet (true→T _ (start .pre .1)) .1)
 
 returns : tie.Need-returns
 returns c =

@@ -1,9 +1,9 @@
--- `draft::columns::clear_all` meets its contract. The loop's invariant: the first i words are 0, and i is at most 4,096.
--- What is left of the words falls.
+-- `draft::columns::clear_all` meets its contract. The loop's invariant: the first i words are 0, and i is at most
+-- 4,096. What is left of the words falls.
 use Prim.Native.Nat.{ℕ, _+_, _-_, _≤_}
 use native.Mathlib.Omega.{arith}
 use native.Mathlib.Numerals.{add-one}
-use mathlib.Core.Path.{_≡_, refl, sym, _∙_, ap}
+use mathlib.Core.Path.{_≡_, refl, _∙_, ap}
 use mathlib.Core.List.{List}
 use lib.ListN.{length, set, take, length-set}
 use lib.Seq.{sets, take-all}

@@ -2,7 +2,7 @@
 -- columns, and c is at most 512. What is left of the columns falls.
 use Prim.Native.Nat.{ℕ, _+_, _-_, _≤_}
 use native.Mathlib.Omega.{arith}
-use mathlib.Core.Path.{_≡_, refl, sym, _∙_, ap}
+use mathlib.Core.Path.{_≡_, refl, _∙_, ap}
 use mathlib.Core.List.{map}
 use borrow.Author.Needs.{needs}
 use denote.Ref.{now}
@@ -41,8 +41,9 @@ returns : tie.Need-returns Inv-loop μ-loop
 unfolding greatestOf
 returns c =
     let l = c .before .loop in
+    let words = now (c .before .before .before .args .words) in
     let all : l .c ≡ 512 = omega arith in
-    (l .inv .1 ∙ ap (λ (k : ℕ). greatest (map (countOf (now (c .before .before .before .args .words))) (upTo k))) all, l .inv .2)
+    (l .inv .1 ∙ ap (λ (k : ℕ). greatest (map (countOf words) (upTo k))) all, l .inv .2)
 
 pub greatest-of-spec : {M : Type 1} → statement M
 greatest-of-spec =

@@ -1,12 +1,11 @@
 -- `draft::columns::mark_span` meets its contract. The loop's invariant: the net is marked in the columns of its span up
 -- to c, and c is at most the last. What is left of the span falls.
-use Prim.Native.Nat.{ℕ, _+_, _-_, _%_, _≤_}
+use Prim.Native.Nat.{_+_, _-_, _≤_}
 use native.Mathlib.Omega.{arith}
 use mathlib.Core.Path.{_≡_, refl, sym, _∙_, ap}
-use lib.ListN.{length, getD, set, length-set}
+use lib.ListN.{length}
 use borrow.Author.Needs.{needs}
-use denote.Ref.{now}
-use Rattle.draft.specs.Marks.{withMark, wordOf, changed, arrivedIn}
+use Rattle.draft.specs.Marks.{arrivedIn}
 use Rattle.draft.specs.MarkLaws.{length-changed}
 use Rattle.draft.specs.CodeLaws.{changed-none, changed-turn}
 use Rattle.draft.proofs.columns.mark_span.Statement.{statement}

@@ -1,5 +1,5 @@
--- `draft::columns::take_out` meets its contract. The loop's invariant: the net's mark is off the first c columns, it was
--- found if it stood in one of them, and c is at most 512. What is left of the columns falls.
+-- `draft::columns::take_out` meets its contract. The loop's invariant: the net's mark is off the first c columns, it
+-- was found if it stood in one of them, and c is at most 512. What is left of the columns falls.
 use Prim.Native.Nat.{ℕ, _+_, _-_, _%_, _≤_}
 use native.Mathlib.Omega.{arith}
 use mathlib.Core.Path.{_≡_, refl, sym, _∙_, ap, ap₂}
@@ -46,8 +46,8 @@ loop-again c =
     let mark : marked (l .words) (l .c + 1) n ≡ marked words (l .c + 1) n =
     ap (λ (ws : List ℕ). marked ws (l .c + 1) n) (l .inv .2) ∙ marked-before _ n 1 words (l .c) (start .pre .1)
     (omega arith) (start .pre .0) in
-    let turned =
-    off .1 ∙ changed-turn _ n 1 words (l .c) (start .pre .1) (omega arith) (start .pre .0) (l .inv .2) (omega arith) in (
+    let turned = off .1
+    ∙ changed-turn _ n 1 words (l .c) (start .pre .1) (omega arith) (start .pre .0) (l .inv .2) (omega arith) in (
       omega arith,
       ap₂ _||_ (l .inv .1) (off .0 ∙ mark) ∙ sym (any-next (λ k. marked words k n) (l .c)),
       turned,
@@ -58,8 +58,6 @@ returns : tie.Need-returns Inv-loop μ-loop
 unfolding isHere
 returns c =
     let l = c .before .loop in
-    let n = c .before .before .before .args .net .0 in
-    let words = now (c .before .before .before .args .words) in
     let all : l .c ≡ 512 = omega arith in
     (rw all at (l .inv .1), rw all at (l .inv .2))
 
