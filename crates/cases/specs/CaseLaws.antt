@@ -1,14 +1,15 @@
--- The loops over a row: whether its end is kept, and the numbers stored in it.
-use Prim.Native.Nat.{ℕ, _+_, _-_, _*_, _/_, _≤_, _<_}
+-- The loops over a row: whether its end is kept, and the numbers stored in it; and over the calls on a draft.
+use Prim.Native.Nat.{ℕ, suc, _+_, _-_, _*_, _/_, _≤_, _<_}
 use native.Mathlib.Omega.{arith}
 use native.Mathlib.Numerals.{add-one}
 use mathlib.Core.Path.{_≡_, sym, _∙_}
-use mathlib.Core.List.{List, append-nil}
-use mathlib.Core.Bool.{true, false}
+use mathlib.Core.List.{List, _∷_, append-nil}
+use mathlib.Core.Bool.{Bool, true, false}
 use lib.ListN.{length, getD, set, take, drop, drop-of-length-le}
 use lib.Seq.{drop-cons}
+use lib.Dec.{leb}
 use borrow.Author.Tests.{eq-eqb, ne-eqb, lt-ltb, le-ltb, le-leb, lt-leb}
-use Rattle.lists.specs.Lists.{allOf, overlay}
+use Rattle.lists.specs.Lists.{allOf, from, overlay}
 use Rattle.lists.specs.Arrays.{length-map-from, getD-numbered}
 use Rattle.lists.specs.Overlays.{copied-next, copied-whole}
 use Rattle.cases.specs.Cases.{
@@ -21,6 +22,8 @@ use Rattle.cases.specs.Cases.{
   rowsFit,
   rowsWhole,
   besideWhole,
+  callsWhole,
+  draftWhole,
 }
 
 module _ (row : List ℕ) (i : ℕ) where
@@ -94,3 +97,47 @@ module _ (bytes : List ℕ) where
     pub beside-enough : 2 + a ≤ length bytes → rowsWhole (take a (drop 2 bytes)) ≡ besideWhole bytes
     unfolding besideWhole
     beside-enough k = sym (rw (le-leb 2 (length bytes) h, ← e, le-leb (2 + a) (length bytes) k))
+
+-- the loop of `make_calls`: whether the calls from i on are each of a kind up to 4
+abbrev pub isCall : List ℕ → ℕ → Bool
+isCall bytes i = leb (numberAt bytes (2 + 8 * i)) 4
+
+unfoldable pub callsFrom : List ℕ → ℕ → ℕ → Bool
+callsFrom bytes count i = allOf (isCall bytes) (from i (count - i))
+
+module _ (bytes : List ℕ) (count : ℕ) where
+  pub calls-all : callsWhole bytes count ≡ callsFrom bytes count 0
+  unfolding callsWhole callsFrom
+  calls-all = let e : count - 0 ≡ count = omega arith in rw e
+
+  module _ (i : ℕ) where
+    first : i < count → from i (count - i) ≡ i ∷ from (suc i) (count - suc i)
+    unfolding from
+    first h = let e : count - i ≡ suc (count - suc i) = omega arith in rw e
+
+    pub calls-next : i < count → isCall bytes i ≡ true → callsFrom bytes count i ≡ callsFrom bytes count (i + 1)
+    unfolding callsFrom allOf
+    calls-next h e = rw (add-one, first h, e)
+
+    pub not-call : i < count → isCall bytes i ≡ false → callsFrom bytes count i ≡ false
+    unfolding callsFrom allOf
+    not-call h e = rw (first h, e)
+
+    pub calls-end : count ≤ i → callsFrom bytes count i ≡ true
+    unfolding callsFrom allOf from
+    calls-end h = let e : count - i ≡ 0 = omega arith in rw e
+
+-- whether the bytes make a question about a draft, test by test
+module _ (bytes : List ℕ) where
+  pub draft-short : length bytes < 2 → false ≡ draftWhole bytes
+  unfolding draftWhole
+  draft-short h = sym (rw (lt-leb 2 (length bytes) h))
+
+  module _ (h : 2 ≤ length bytes) {a : ℕ} (e : a ≡ numberAt bytes 0) where
+    pub draft-many : 4104 < a → false ≡ draftWhole bytes
+    unfolding draftWhole
+    draft-many k = sym (rw (le-leb 2 (length bytes) h, ← e, lt-leb a 4104 k))
+
+    pub draft-few : a ≤ 4104 → callsWhole bytes ((length bytes - 2) / 8) ≡ draftWhole bytes
+    unfolding draftWhole
+    draft-few k = sym (rw (le-leb 2 (length bytes) h, ← e, le-leb a 4104 k))

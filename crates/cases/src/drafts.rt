@@ -40,10 +40,8 @@ fn put_counted(name: &[u8], answer: CountAnswer) {
     }
 }
 
-// Makes a call and writes its line; answers false where there is no such call.
-fn make_call(words: &mut [u64], kind: u32, n: u32, first: u32, last: u32) -> bool
-    ensures { λ r. ⌜ r ≡ leb kind 4 ⌝ }
-{
+// Makes the call of a kind up to 4 and writes its line.
+fn make_call(words: &mut [u64], kind: u32, n: u32, first: u32, last: u32) {
     match kind {
         0 => put_changed(b"CLEAR", draft::clear(words)),
         1 => put_changed(
@@ -52,24 +50,24 @@ fn make_call(words: &mut [u64], kind: u32, n: u32, first: u32, last: u32) -> boo
         ),
         2 => put_changed(b"LEAVE", draft::leave(words, Net(n))),
         3 => put_counted(b"COUNT", draft::count(words, Column(n))),
-        4 => put_counted(b"GREATEST", draft::greatest(words)),
-        _ => {
-            return false;
-        }
+        _ => put_counted(b"GREATEST", draft::greatest(words)),
     }
-    true
 }
 
-// The same of the call that stands at byte `at`.
+// The same of the call that stands at byte `at`; answers false where there is no such call.
 fn make_call_at(words: &mut [u64], bytes: &[u8], at: usize) -> bool
     requires { ⌜ at + 8 ≤ length (now bytes) ⌝ }
     ensures { λ r. ⌜ r ≡ leb (numberAt (now (bytes .entry)) at) 4 ⌝ }
 {
     let kind = rows::number_at(bytes, at);
+    if 4 < kind {
+        return false;
+    }
     let n = rows::number_at(bytes, at + 2);
     let first = rows::number_at(bytes, at + 4);
     let last = rows::number_at(bytes, at + 6);
-    make_call(words, kind, n, first, last)
+    make_call(words, kind, n, first, last);
+    true
 }
 
 // Makes all calls that stand from byte 2 on; answers false at one that is none.
@@ -79,12 +77,10 @@ fn make_calls(words: &mut [u64], bytes: &[u8], count: usize) -> bool
 {
     let mut i: usize = 0;
     while i < count {
-        let made = make_call_at(words, bytes, 2 + CALL_BYTES * i);
-        if made {
-            i += 1;
-        } else {
+        if !make_call_at(words, bytes, 2 + CALL_BYTES * i) {
             return false;
         }
+        i += 1;
     }
     true
 }
@@ -117,24 +113,33 @@ fn is_kept(words: &[u64]) -> bool
     true
 }
 
-// Writes the words of a draft of which so many were lent, and whether the others were kept.
-fn put_left(words: &[u64], size: usize)
-    requires { ⌜ length (now words) ≡ 4104 ⌝ }
+// Writes the first of the words, so many, and whether the others were kept.
+fn put_parts(words: &[u64], used: usize)
+    requires { ⌜ used ≤ length (now words) ⌝ }
 {
-    let used = if size < DRAFT_TRAY { 0 } else { DRAFT_TRAY };
     put_words(&words[..used]);
     output::put_kept_word(is_kept(&words[used..]));
 }
 
+// The same where so many of the words were lent: if they are too few for a draft, all have to be kept.
+fn put_left(words: &[u64], size: usize)
+    requires { ⌜ length (now words) ≡ 4104 ⌝ }
+{
+    if size < DRAFT_TRAY {
+        put_parts(words, 0);
+    } else {
+        put_parts(words, DRAFT_TRAY);
+    }
+}
+
 // Makes the calls on so many of the words, and writes what is left.
-fn answer_sized(bytes: &[u8], size: usize) -> bool
-    requires { ⌜ (2 ≤ length (now bytes)) × (size ≤ 4104) ⌝ }
+fn answer_sized(words: &mut [u64], bytes: &[u8], size: usize) -> bool
+    requires { ⌜ (length (now words) ≡ 4104) × (2 ≤ length (now bytes)) × (size ≤ 4104) ⌝ }
     ensures { λ r. ⌜ r ≡ callsWhole (now (bytes .entry)) ((length (now (bytes .entry)) - 2) / 8) ⌝ }
 {
-    let mut words = [MARK; ROOM];
     let whole = make_calls(&mut words[..size], bytes, (bytes.len() - 2) / CALL_BYTES);
     if whole {
-        put_left(&words, size);
+        put_left(words, size);
     }
     whole
 }
@@ -150,5 +155,6 @@ pub fn answer_draft(bytes: &[u8]) -> bool
     if ROOM < size {
         return false;
     }
-    answer_sized(bytes, size)
+    let mut words = [MARK; ROOM];
+    answer_sized(&mut words, bytes, size)
 }
