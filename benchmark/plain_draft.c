@@ -1,5 +1,6 @@
 /* A draft: eight words of marks for each column, a bit for each net. A net is on the draft where some column has its
- * mark, so that arriving and leaving look at one word of each column. */
+ * mark, so that arriving and leaving look at one word of each column. Where a net has no mark, taking its marks off
+ * changes nothing. */
 #include "plain.h"
 
 enum { EIGHT = PLAIN_DRAFT / PLAIN_COLUMNS };
@@ -63,11 +64,12 @@ uint64_t plain_draft_leave(uint64_t *words, size_t words_length, uint32_t number
         return plain_refused(1, PLAIN_DRAFT);
     if (!is_net(number))
         return plain_refused(21, number);
-    if (!is_marked(words, number))
-        return plain_refused(23, number);
-    for (size_t i = number / 64; i < PLAIN_DRAFT; i += EIGHT)
-        words[i] &= ~(UINT64_C(1) << number % 64);
-    return 0;
+    uint64_t mark = UINT64_C(1) << number % 64, found = 0;
+    for (size_t i = number / 64; i < PLAIN_DRAFT; i += EIGHT) {
+        found |= words[i] & mark;
+        words[i] &= ~mark;
+    }
+    return found != 0 ? 0 : plain_refused(23, number);
 }
 
 uint64_t plain_draft_count(const uint64_t *words, size_t words_length, uint32_t column)
