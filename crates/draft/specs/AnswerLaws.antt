@@ -15,10 +15,9 @@ use Rattle.refusal.specs.declared.Refusal.the-variants.{ShortTray, BadSpan, Alr
 use Rattle.refusal.specs.Refusals.{placeOf, refuseIf, refuseAtFirst, _or-else_}
 use Rattle.refusal.specs.ChainLaws.{or-else-some, refuse-if-some}
 use Rattle.refusal.specs.Trays.{draftTray, shortTray}
-use Rattle.draft.specs.Marks.{isHere}
+use Rattle.draft.specs.Marks.{LongDraft, isHere}
 use Rattle.draft.specs.Answers.{goodNumber, goodSpan, shortDraft, arrivalRefusal, leavingRefusal}
 use Rattle.draft.specs.Answers.{arriveRefusal, leaveRefusal}
-use Rattle.draft.specs.Code.{LongDraft}
 
 -- refusal 1
 pub long-silent : (words : List ℕ) → LongDraft words → shortDraft words ≡ none

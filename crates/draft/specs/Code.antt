@@ -5,24 +5,13 @@ use mathlib.Core.Path.{_≡_}
 use mathlib.Core.List.{List, [], _∷_, _++_}
 use lib.ListN.{length}
 use Rattle.lists.specs.Lists.{keep, from}
-use Rattle.refusal.specs.Trays.{draftTray}
-use Rattle.channel.specs.Channel.{highestNet, widest}
 use Rattle.draft.specs.declared.DraftAnswer.{DraftAnswer}
 use Rattle.draft.specs.declared.CountAnswer.{CountAnswer}
 use Rattle.draft.specs.declared.CountAnswer.the-variants as ask
-use Rattle.draft.specs.Marks.{marked, countOf, greatestOf}
+use Rattle.draft.specs.Marks.{LongDraft, IsColumn, marked, countOf, greatestOf}
 use Rattle.draft.specs.Answers.{shortDraft, arriveRefusal, leaveRefusal, changeAnswer, askAnswer}
 use Rattle.draft.specs.Answers.{arriveAfter, leaveAfter, clearAfter}
 use Rattle.draft.specs.History.{Call, arrive, leave, clear, afterCalls, netsHere, spanCount, spanGreatest, Empty}
-
-abbrev pub LongDraft : List ℕ → Type 0
-LongDraft words = draftTray ≤ length words
-
-abbrev pub IsColumn : ℕ → Type 0
-IsColumn c = (1 ≤ c) × (c ≤ widest)
-
-abbrev pub InDraft : ℕ → ℕ → Type 0
-InDraft n c = (n ≤ highestNet) × IsColumn c
 
 -- the memory after a list of calls, and after this call the memory after the list with it at its end
 abbrev pub GoesOn : List ℕ → Call → List ℕ → Type 0

@@ -4,7 +4,7 @@ use Prim.Native.Nat.{ℕ, suc, _+_, _-_, _/_, _%_, _≤_, _<_}
 use native.Mathlib.Omega.{arith}
 use native.Mathlib.Numerals.{add-one}
 use mathlib.Core.Path.{_≡_, refl, sym, _∙_, ap}
-use mathlib.Core.List.{List, [], _∷_, _++_}
+use mathlib.Core.List.{List}
 use mathlib.Core.Logic.{⊎-elim}
 use mathlib.Core.Bool.{Bool, false, cond}
 use lib.ListN.{length, getD, set, take, drop}
@@ -26,20 +26,14 @@ use Rattle.draft.specs.Marks.{
   marked,
   isHere,
   marksOf,
-  columnWords,
-  countOf,
+  changedAt,
   isWordOf,
   changed,
   leftFrom,
 }
 use Rattle.draft.specs.BitLaws.{unset-same}
 use Rattle.draft.specs.MarkLaws.{word-changed}
-
--- the marks of words end to end
-marks-append : (xs ys : List ℕ) → marksOf (xs ++ ys) ≡ marksOf xs + marksOf ys
-unfolding marksOf
-marks-append [] ys = omega arith
-marks-append (x ∷ xs) ys = omega (arith, marks-append xs ys)
+use Rattle.draft.specs.CountLaws.{marks-append}
 
 marks-first : (k : ℕ) (ws : List ℕ) (i next : ℕ) → i < length ws → next ≡ i + 1
     → marksOf (take (suc k) (drop i ws)) ≡ ones (getD ws i 0) + marksOf (take k (drop next ws))
@@ -138,7 +132,7 @@ module _ (f : ℕ → ℕ) (n first : ℕ) (words : List ℕ) where
 
     -- a turn of a loop that changes one column after the other
     pub changed-turn : {held : List ℕ} → held ≡ changed f n first c words → first ≤ c + 1
-        → set held (wordOf (c + 1) n) (f (getD held (wordOf (c + 1) n) 0)) ≡ changed f n first (c + 1) words
+        → changedAt f n (c + 1) held ≡ changed f n first (c + 1) words
     changed-turn e h = rw e (rw before-change (changed-next h))
 
 -- the mark of the column that is changed next is as it was
@@ -161,8 +155,3 @@ nothing-left n words net off =
         let place : wordOf (i / 8 + 1) n ≡ i = omega arith in
         fails→false _ (λ set. false→fails _ off (member→any (λ c. isSet (getD words (wordOf c n) 0) (n % 64))
         (in-upTo widest (i / 8 + 1) (omega arith) (w .2)) (rw place set)))
-
--- the count of a column inside
-pub count-inside : (words : List ℕ) (c : ℕ) → 1 ≤ c → c ≤ widest → countOf words c ≡ marksOf (columnWords words c)
-unfolding countOf
-count-inside words c low high = rw (T→true (within 1 c widest) (→within 1 c widest low high))

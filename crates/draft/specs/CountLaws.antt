@@ -4,7 +4,6 @@ use Prim.Native.Nat.{ℕ, zero, suc, _+_, _-_, _*_, _/_, _%_, _≤_, _<_}
 use native.Mathlib.Omega.{arith}
 use mathlib.Core.Path.{_≡_, refl, sym, _∙_, ap, ap₂}
 use mathlib.Core.List.{List, [], _∷_, _++_}
-use mathlib.Core.Bool.{cond}
 use lib.ListN.{length, getD, take, drop, length-drop}
 use lib.Seq.{take-suc, getD-drop}
 use lib.Count.{ones}
@@ -15,15 +14,28 @@ use Rattle.lists.specs.Members.{from-member}
 use Rattle.lists.specs.Tallies.{keep-same}
 use Rattle.lists.specs.Parts.{kept-two}
 use Rattle.channel.specs.Channel.{widest}
-use Rattle.draft.specs.Marks.{isSet, marked, marksOf, columnWords, countOf}
-use Rattle.draft.specs.Code.{LongDraft, IsColumn}
+use Rattle.draft.specs.Marks.{LongDraft, IsColumn, isSet, marked, marksOf, columnWords, countOf}
 use Rattle.draft.specs.BitLaws.{ones-counted}
 use Rattle.draft.specs.MarkLaws.{Words64}
 
+-- the marks of words end to end
+pub marks-append : (xs ys : List ℕ) → marksOf (xs ++ ys) ≡ marksOf xs + marksOf ys
+unfolding marksOf
+marks-append [] ys = omega arith
+marks-append (x ∷ xs) ys = omega (arith, marks-append xs ys)
+
 marks-snoc : (ws : List ℕ) (w : ℕ) → marksOf (ws ++ (w ∷ [])) ≡ marksOf ws + ones w
 unfolding marksOf
-marks-snoc [] w = omega arith
-marks-snoc (v ∷ vs) w = let rest = marks-snoc vs w in omega arith
+marks-snoc ws w = omega (arith, marks-append ws (w ∷ []))
+
+-- a column's count, inside 1 to 512 and outside
+pub count-inside : (words : List ℕ) (c : ℕ) → IsColumn c → countOf words c ≡ marksOf (columnWords words c)
+unfolding countOf
+count-inside words c column = rw (T→true (within 1 c widest) (→within 1 c widest (column .0) (column .1)))
+
+pub count-outside : (words : List ℕ) (c : ℕ) → (T (within 1 c widest) → ⊥) → countOf words c ≡ 0
+unfolding countOf
+count-outside words c out = rw (fails→false (within 1 c widest) out)
 
 module _ (words : List ℕ) (c : ℕ) (sized : Words64 words) (long : LongDraft words) (column : IsColumn c) where
   abbrev wordAt : ℕ → ℕ
@@ -59,12 +71,4 @@ module _ (words : List ℕ) (c : ℕ) (sized : Words64 words) (long : LongDraft 
       rw next (omega arith)
 
   pub count-marks : countOf words c ≡ length (keep (marked words c) (from 0 512))
-  unfolding countOf
-  count-marks =
-      ap (λ b. cond b (marksOf (columnWords words c)) 0)
-      (T→true (within 1 c widest) (→within 1 c widest (column .0) (column .1))) ∙ words-marks 8 (omega arith)
-
--- outside the columns nothing is counted
-pub count-outside : (words : List ℕ) (c : ℕ) → (T (within 1 c widest) → ⊥) → countOf words c ≡ 0
-unfolding countOf
-count-outside words c out = rw (fails→false (within 1 c widest) out)
+  count-marks = count-inside words c column ∙ words-marks 8 (omega arith)

@@ -11,11 +11,11 @@ use Rattle.refusal.specs.Refusals.{answered}
 use Rattle.refusal.specs.Trays.{draftTray}
 use Rattle.draft.specs.declared.DraftAnswer.the-variants as change
 use Rattle.draft.specs.declared.CountAnswer.the-variants as ask
-use Rattle.draft.specs.Marks.{countOf, greatestOf, arrivedIn, leftFrom, cleared}
+use Rattle.draft.specs.Marks.{LongDraft, countOf, greatestOf, arrivedIn, leftFrom, cleared}
 use Rattle.draft.specs.Answers.{arriveRefusal, leaveRefusal, unless}
 use Rattle.draft.specs.Answers.{arriveAfter, leaveAfter, clearAfter}
 use Rattle.draft.specs.History.{Call, arrive, leave, clear, afterCall, afterCalls}
-use Rattle.draft.specs.Code.{LongDraft, GoesOn, After, ArriveDone, LeaveDone, CountDone, GreatestDone}
+use Rattle.draft.specs.Code.{GoesOn, After, ArriveDone, LeaveDone, CountDone, GreatestDone}
 use Rattle.draft.specs.Code.{ClearDone}
 use Rattle.draft.specs.AnswerLaws.{long-silent, short-told}
 use Rattle.draft.specs.MarkLaws.{Words64, cleared-empty}

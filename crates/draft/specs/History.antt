@@ -2,19 +2,19 @@
 -- worked out from the nets that have arrived and not left since, refused calls having no effect." The list of calls is
 -- data; what each does to the memory is what its function's contract says, and the spans are counted by the density of
 -- `channel`.
-use Prim.Native.Nat.{ℕ, _<_, _≤_}
+use Prim.Native.Nat.{ℕ, _<_}
 use mathlib.Core.Path.{_≡_}
 use mathlib.Core.List.{List, [], _∷_, map}
 use mathlib.Core.Bool.{Bool, cond, not, _&&_}
 use mathlib.Core.Option.{none}
-use lib.ListN.{length, getD}
+use lib.ListN.{getD}
 use lib.Dec.{eqb}
-use Rattle.lists.specs.Lists.{keep, anyOf, upTo, greatest}
+use Rattle.lists.specs.Lists.{keep, anyOf, upTo, greatest, within}
 use Rattle.refusal.specs.Refusals.{Told}
 use Rattle.refusal.specs.Trays.{draftTray}
 use Rattle.channel.specs.Channel.{widest}
 use Rattle.channel.specs.Density.{Span, spansOver}
-use Rattle.draft.specs.Marks.{countOf, greatestOf}
+use Rattle.draft.specs.Marks.{LongDraft, InDraft, marked, countOf, greatestOf}
 use Rattle.draft.specs.Answers.{
   goodSpan,
   shortDraft,
@@ -100,15 +100,24 @@ netsTold nets (count c) = countTold (askAnswer none (spanCount nets c))
 netsTold nets whole = countTold (askAnswer none (spanGreatest nets))
 netsTold nets clear = draftTold (changeAnswer none)
 
+-- the net's span holds column c, and the net is the one with number n
+abbrev pub over : ℕ → Arrived → Bool
+over c net = within (net .span .first) c (net .span .last)
+
+abbrev pub covers : ℕ → ℕ → Arrived → Bool
+covers n c net = isOf n net && over c net
+
 -- a draft on which no net is: its 4,096 words are 0
 pub record Empty (words : List ℕ) : Type 0 where
-  pub long : draftTray ≤ length words
+  pub long : LongDraft words
   pub zeros : (i : ℕ) → i < draftTray → getD words i 0 ≡ 0
 
 -- Req 14, of a list of calls and the memory after them. Rules out: a net that leaves and stays counted in one of its
 -- columns, or comes twice and is counted twice (counts); a greatest of the columns up to the last arrival's (whole); a
--- net taken for another by its number modulo 64 (answers).
+-- net taken for another by its number modulo 64 (marks, answers).
 pub record DraftPromise (calls : List Call) (words : List ℕ) : Type 0 where
+  -- "Each column keeps the set of nets over it, one mark a net"
+  pub marks : (c n : ℕ) → InDraft n c → marked words c n ≡ anyOf (covers n c) (netsHere calls)
   pub counts : (c : ℕ) → countOf words c ≡ spanCount (netsHere calls) c
   pub whole : greatestOf words ≡ spanGreatest (netsHere calls)
   -- and whatever is called next is told by these nets, refusals 21 to 23 among it

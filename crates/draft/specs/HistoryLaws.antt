@@ -18,11 +18,10 @@ use Rattle.refusal.specs.Refusals.{refuseIf, _or-else_}
 use Rattle.refusal.specs.ChainLaws.{none-or-else-later}
 use Rattle.refusal.specs.Trays.{draftTray}
 use Rattle.channel.specs.Channel.{highestNet, widest}
-use Rattle.draft.specs.Marks.{countOf, greatestOf, zeros, arrivedIn, leftFrom}
+use Rattle.draft.specs.Marks.{LongDraft, countOf, greatestOf, zeros, arrivedIn, leftFrom}
 use Rattle.draft.specs.Answers.{goodNumber, goodSpan, shortDraft, arrivalRefusal, leavingRefusal}
 use Rattle.draft.specs.Answers.{changeAnswer, askAnswer, draftTold, countTold}
 use Rattle.draft.specs.Answers.{arriveRefusal, leaveRefusal, unless, arriveAfter, leaveAfter, clearAfter}
-use Rattle.draft.specs.Code.{LongDraft}
 use Rattle.draft.specs.History.{Call, arrive, leave, count, whole, clear, afterCall, afterCalls, callTold}
 use Rattle.draft.specs.History.{Arrived, isOf, netsAfter, netsAfterCalls, spanCount, spanGreatest, netsTold}
 use Rattle.draft.specs.History.{Empty, DraftPromise}
@@ -162,7 +161,7 @@ draws-calls (call ∷ calls) d = draws-calls calls (draws-call d call)
 pub history : (words : List ℕ) → Empty words → (calls : List Call) → DraftPromise calls (afterCalls words calls)
 history words empty calls =
     let d = draws-calls calls (draws-none empty) in
-    record { counts = counted d; whole = greatest-counted d; answers = told d }
+    record { marks = d .marks; counts = counted d; whole = greatest-counted d; answers = told d }
 
 -- its memory stays long enough
 pub history-long : (words : List ℕ) → Empty words → (calls : List Call) → LongDraft (afterCalls words calls)

@@ -18,6 +18,7 @@ use Rattle.lists.specs.Counts.{getD-zeros}
 use Rattle.lists.specs.Overlays.{length-overlay}
 use Rattle.refusal.specs.Trays.{draftTray}
 use Rattle.channel.specs.Channel.{widest}
+use Rattle.draft.specs.Marks.{LongDraft, InDraft}
 use Rattle.draft.specs.Marks.{
   isSet,
   withMark,
@@ -32,7 +33,6 @@ use Rattle.draft.specs.Marks.{
   cleared,
 }
 use Rattle.draft.specs.History.{Empty}
-use Rattle.draft.specs.Code.{LongDraft, InDraft}
 use Rattle.draft.specs.BitLaws.{set-marked, set-unmarked, zero-unset}
 
 -- the words of the draft are words of 64 bits

@@ -2,16 +2,16 @@
 -- memory is a list of 64-bit words, eight to a column, of which the words of 512 columns are used: those of column c,
 -- counted from 1, begin at place (c - 1) * 8, counted from 0, and net n's mark is digit n % 64 of the (n / 64)th of
 -- them.
-use Prim.Native.Nat.{ℕ, _+_, _-_, _*_, _/_, _%_, _^_}
+use Prim.Native.Nat.{ℕ, _+_, _-_, _*_, _/_, _%_, _^_, _≤_}
 use mathlib.Core.List.{List, [], _∷_, map}
 use mathlib.Core.Bool.{Bool, cond, _&&_}
-use lib.ListN.{length, getD, take, drop, replicate}
+use lib.ListN.{length, getD, set, take, drop, replicate}
 use lib.Dec.{eqb}
 use lib.Bits.{bitAnd, bitOr, bitXor}
 use lib.Count.{ones}
 use Rattle.lists.specs.Lists.{anyOf, from, upTo, greatest, within, overlay}
 use Rattle.refusal.specs.Trays.{draftTray}
-use Rattle.channel.specs.Channel.{widest}
+use Rattle.channel.specs.Channel.{highestNet, widest}
 
 -- digit k of a word is set
 unfoldable pub isSet : ℕ → ℕ → Bool
@@ -23,6 +23,16 @@ withMark k w = bitOr w (2 ^ k)
 
 unfoldable pub withoutMark : ℕ → ℕ → ℕ
 withoutMark k w = bitXor w (bitAnd w (2 ^ k))
+
+-- a memory that has the words of 512 columns, a column, and a net number with a column
+abbrev pub LongDraft : List ℕ → Type 0
+LongDraft words = draftTray ≤ length words
+
+abbrev pub IsColumn : ℕ → Type 0
+IsColumn c = (1 ≤ c) × (c ≤ widest)
+
+abbrev pub InDraft : ℕ → ℕ → Type 0
+InDraft n c = (n ≤ highestNet) × IsColumn c
 
 -- where column c has the word with net n's mark
 abbrev pub wordOf : ℕ → ℕ → ℕ
@@ -51,6 +61,10 @@ countOf words c = cond (within 1 c widest) (marksOf (columnWords words c)) 0
 -- "asked for the whole, the greatest"
 unfoldable pub greatestOf : List ℕ → ℕ
 greatestOf words = greatest (map (countOf words) (upTo widest))
+
+-- the memory, net n's word in column c changed so
+abbrev pub changedAt : (ℕ → ℕ) → ℕ → ℕ → List ℕ → List ℕ
+changedAt f n c words = set words (wordOf c n) (f (getD words (wordOf c n) 0))
 
 -- place i has the word with net n's mark of a column from first to last
 abbrev pub isWordOf : ℕ → ℕ → ℕ → ℕ → Bool

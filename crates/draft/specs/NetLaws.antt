@@ -19,9 +19,8 @@ use Rattle.lists.specs.Pigeonhole.{distinct-cons, kept-distinct, same-length}
 use Rattle.lists.specs.Ranges.{length-keep-map, fails→none-kept}
 use Rattle.channel.specs.Channel.{highestNet, widest}
 use Rattle.channel.specs.Density.{Span, spansOver}
-use Rattle.draft.specs.Marks.{marked, isHere, countOf, arrivedIn, leftFrom}
-use Rattle.draft.specs.Code.{LongDraft, IsColumn, InDraft}
-use Rattle.draft.specs.History.{Arrived, isOf, spanCount, Empty}
+use Rattle.draft.specs.Marks.{LongDraft, IsColumn, InDraft, marked, isHere, countOf, arrivedIn, leftFrom}
+use Rattle.draft.specs.History.{Arrived, isOf, spanCount, over, covers, Empty}
 use Rattle.draft.specs.MarkLaws.{Words64, length-arrived, length-left, marked-arrived, marked-left}
 use Rattle.draft.specs.MarkLaws.{marked-empty, arrived-64, left-64, empty-64}
 use Rattle.draft.specs.CountLaws.{count-marks, count-outside}
@@ -31,13 +30,6 @@ netOf n first last = record { number = n; span = record { first = first; last = 
 
 abbrev pub isNot : ℕ → Arrived → Bool
 isNot n net = not (isOf n net)
-
--- the net's span holds column c, and the net is the one with number n
-abbrev pub over : ℕ → Arrived → Bool
-over c net = within (net .span .first) c (net .span .last)
-
-abbrev pub covers : ℕ → ℕ → Arrived → Bool
-covers n c net = isOf n net && over c net
 
 abbrev pub numbers : List Arrived → List ℕ
 numbers nets = map (λ net. net .number) nets

@@ -1,10 +1,10 @@
 // One column of the draft: its eight words, and the one of them that has a net's mark.
 ghost use mathlib.Core.Path.{_≡_};
 ghost use Prim.Native.Nat.{_+_, _%_, _<_, _≤_};
-ghost use lib.ListN.{length, getD, set, take, drop};
+ghost use lib.ListN.{length, getD, take, drop};
 ghost use lib.Count.{ones};
-ghost use Rattle.draft.specs.Marks.{withMark, withoutMark, wordOf, marked, marksOf, columnWords};
-ghost use Rattle.draft.specs.Code.{LongDraft, InDraft, IsColumn};
+ghost use Rattle.draft.specs.Marks.{LongDraft, InDraft, IsColumn, withMark, withoutMark, wordOf};
+ghost use Rattle.draft.specs.Marks.{changedAt, marked, marksOf, columnWords};
 use crate::word;
 use grid::Column;
 use grid::Net;
@@ -34,8 +34,7 @@ pub fn is_marked(words: &[u64], net: Net, c: Column) -> bool
 pub fn mark(words: &mut [u64], net: Net, c: Column)
     requires { ⌜ LongDraft (now words) × InDraft (net .0) (c .0) ⌝ }
     ensures { λ _.
-        ⌜ now (words .exit) ≡ set (now (words .entry)) (wordOf (c .0) (net .0))
-        (withMark (net .0 % 64) (getD (now (words .entry)) (wordOf (c .0) (net .0)) 0)) ⌝ }
+        ⌜ now (words .exit) ≡ changedAt (withMark (net .0 % 64)) (net .0) (c .0) (now (words .entry)) ⌝ }
 {
     let i = word_of(net, c);
     words[i] = word::with_mark(words[i], net.0 % WORD_MARKS);
@@ -45,8 +44,7 @@ pub fn mark(words: &mut [u64], net: Net, c: Column)
 pub fn unmark(words: &mut [u64], net: Net, c: Column)
     requires { ⌜ LongDraft (now words) × InDraft (net .0) (c .0) ⌝ }
     ensures { λ _.
-        ⌜ now (words .exit) ≡ set (now (words .entry)) (wordOf (c .0) (net .0))
-        (withoutMark (net .0 % 64) (getD (now (words .entry)) (wordOf (c .0) (net .0)) 0)) ⌝ }
+        ⌜ now (words .exit) ≡ changedAt (withoutMark (net .0 % 64)) (net .0) (c .0) (now (words .entry)) ⌝ }
 {
     let i = word_of(net, c);
     words[i] = word::without_mark(words[i], net.0 % WORD_MARKS);

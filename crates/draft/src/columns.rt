@@ -1,11 +1,9 @@
 // All columns of the draft: each of these is one pass, over a net's span or over the 512 columns.
 ghost use mathlib.Core.Path.{_≡_};
 ghost use Prim.Native.Nat.{max, _%_, _≤_};
-ghost use lib.ListN.{getD, set};
 ghost use Rattle.channel.specs.Channel.{highestNet, widest};
-ghost use Rattle.draft.specs.Marks.{wordOf, marked, withoutMark, isHere, greatestOf};
-ghost use Rattle.draft.specs.Marks.{arrivedIn, leftFrom, cleared};
-ghost use Rattle.draft.specs.Code.{LongDraft, InDraft};
+ghost use Rattle.draft.specs.Marks.{LongDraft, InDraft, marked, withoutMark, isHere, greatestOf};
+ghost use Rattle.draft.specs.Marks.{changedAt, arrivedIn, leftFrom, cleared};
 use crate::column;
 use grid::Column;
 use grid::Net;
@@ -45,8 +43,7 @@ fn take_off(words: &mut [u64], net: Net, c: Column) -> bool
     requires { ⌜ LongDraft (now words) × InDraft (net .0) (c .0) ⌝ }
     ensures { λ r.
         ⌜ (r ≡ marked (now (words .entry)) (c .0) (net .0))
-        × (now (words .exit) ≡ set (now (words .entry)) (wordOf (c .0) (net .0))
-        (withoutMark (net .0 % 64) (getD (now (words .entry)) (wordOf (c .0) (net .0)) 0))) ⌝ }
+        × (now (words .exit) ≡ changedAt (withoutMark (net .0 % 64)) (net .0) (c .0) (now (words .entry))) ⌝ }
 {
     let was = column::is_marked(words, net, c);
     column::unmark(words, net, c);

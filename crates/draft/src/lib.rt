@@ -6,8 +6,9 @@ mod word;
 
 ghost use mathlib.Core.Path.{_≡_};
 ghost use mathlib.Core.Bool.{true};
+ghost use Rattle.draft.specs.Marks.{LongDraft};
 ghost use Rattle.draft.specs.Answers.{goodNumber, goodSpan};
-ghost use Rattle.draft.specs.Code.{LongDraft, ArriveDone, LeaveDone, CountDone, GreatestDone, ClearDone};
+ghost use Rattle.draft.specs.Code.{ArriveDone, LeaveDone, CountDone, GreatestDone, ClearDone};
 use grid::Column;
 use grid::HIGHEST_NET;
 use grid::Net;

@@ -4,7 +4,7 @@ use native.Mathlib.Omega.{arith}
 use mathlib.Core.Path.{_≡_, refl, sym, ap, subst}
 use mathlib.Core.List.{List, [], _∷_, _++_, map, List·Memᴰ, List·Memᴰ·head, List·Memᴰ·tail, List·Memᴰ·cases-cons}
 use mathlib.Core.List.{List·Memᴰ·not-nil, List·Memᴰ·append-cases, List·Memᴰ·eq-of-singleton, Memᴰ·cast}
-use mathlib.Core.List.{Memᴰ·append-left, Memᴰ·append-right, Memᴰ·map, Memᴰ·of-map}
+use mathlib.Core.List.{Memᴰ·append-left, Memᴰ·append-right, Memᴰ·map, Memᴰ·of-map, map-id}
 use mathlib.Core.Logic.{_⊎_, ⊎-elim}
 use mathlib.Core.Bool.{Bool, true, false, cond, not}
 use lib.ListN.{length}
@@ -60,15 +60,6 @@ pub distinct-swap : (xs ys : List ℕ) → Distinct (xs ++ ys) → Distinct (ys 
 distinct-swap xs ys d =
     let r = distinct→apart xs ys d in append-distinct ys xs (r .right) (r .left) (λ n m k. r .apart n k m)
 
-pub keep-distinct : (f : ℕ → Bool) (xs : List ℕ) → Distinct xs → Distinct (keep f xs)
-unfolding keep
-keep-distinct f [] d = d
-keep-distinct f (x ∷ xs) d = go (f x) (keep-distinct f xs (distinct-tail x xs d))
-  where
-    go : (b : Bool) → Distinct (keep f xs) → Distinct (cond b (x ∷ keep f xs) (keep f xs))
-    go true e = distinct-cons x (keep f xs) (λ m. distinct-head x xs d (keep-member f xs m .0)) e
-    go false e = e
-
 -- members that are kept have different numbers if all the members do
 pub kept-distinct : {A : Type 0} (f : A → Bool) (g : A → ℕ) (xs : List A) → Distinct (map g xs)
     → Distinct (map g (keep f xs))
@@ -81,6 +72,9 @@ kept-distinct f g (x ∷ xs) d = go (f x) (kept-distinct f g xs (distinct-tail (
         distinct-cons (g x) (map g (keep f xs)) (λ m. let r = Memᴰ·of-map g (keep f xs) m in
         distinct-head (g x) (map g xs) d (Memᴰ·cast (sym (r .2)) (Memᴰ·map g (keep-member f xs (r .1) .0)))) e
     go false e = e
+
+pub keep-distinct : (f : ℕ → Bool) (xs : List ℕ) → Distinct xs → Distinct (keep f xs)
+keep-distinct f xs d = rw map-id at (kept-distinct f (λ n. n) xs (rw map-id d))
 
 pub distinct-snoc : (xs : List ℕ) (x : ℕ) → (List·Memᴰ x xs → ⊥) → Distinct xs → Distinct (xs ++ (x ∷ []))
 unfolding Distinct
@@ -118,12 +112,12 @@ pigeonhole (x ∷ xs) ys d h =
     let fewer = length-keep-less others (h x (List·Memᴰ·head refl)) (ap not (T→true (eqb x x) (eqb-refl x))) in
     omega arith
 
--- a list that repeats nothing and has as many members as another of which all are members has all of them
 -- so two lists with the same members, of which neither repeats any, have the same length
 pub same-length : (xs ys : List ℕ) → Distinct xs → Distinct ys → ((x : ℕ) → List·Memᴰ x xs → List·Memᴰ x ys)
     → ((y : ℕ) → List·Memᴰ y ys → List·Memᴰ y xs) → length xs ≡ length ys
 same-length xs ys d e h k = omega (arith, pigeonhole xs ys d h, pigeonhole ys xs e k)
 
+-- a list that repeats nothing and has as many members as another of which all are members has all of them
 pub same-members : (xs ys : List ℕ) → Distinct xs → ((x : ℕ) → List·Memᴰ x xs → List·Memᴰ x ys)
     → length ys ≤ length xs → (y : ℕ) → List·Memᴰ y ys → List·Memᴰ y xs
 same-members xs ys d h long y m =

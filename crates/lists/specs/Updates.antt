@@ -53,10 +53,11 @@ set-gives f g m j v inside here there =
     (λ k below. ⊎-elim (λ e. rw (eq-eqb k j e) (sym here ∙ ap g (sym e)))
     (λ apart. rw (ne-eqb k j apart) (there k below apart)) (equal? k j))
 
--- of a range that is one number longer `keep` keeps that number at the end, or skips it
+-- a range that is one number longer
 upTo-next : (k : ℕ) → upTo (k + 1) ≡ upTo k ++ ((k + 1) ∷ [])
 upTo-next k = ap upTo (add-one k) ∙ (from-snoc 1 k ∙ ap (λ (j : ℕ). upTo k ++ (j ∷ [])) (omega arith))
 
+-- of it `keep` keeps that number at the end, or skips it
 module _ (f : ℕ → Bool) (k : ℕ) where
   pub keep-next : keep f (upTo (k + 1)) ≡ keep f (upTo k) ++ keep f ((k + 1) ∷ [])
   keep-next = ap (keep f) (upTo-next k) ∙ keep-append f (upTo k) ((k + 1) ∷ [])
@@ -86,6 +87,7 @@ unfolding greatest
 greatest-map-last f [] x = omega arith
 greatest-map-last f (y ∷ ys) x = let rest = greatest-map-last f ys x in omega arith
 
+-- the greatest of what is given is that of before, or what that number gives
 pub greatest-next : (f : ℕ → ℕ) (k : ℕ)
     → greatest (map f (upTo (k + 1))) ≡ max (greatest (map f (upTo k))) (f (k + 1))
 greatest-next f k = ap (λ (l : List ℕ). greatest (map f l)) (upTo-next k) ∙ greatest-map-last f (upTo k) (k + 1)

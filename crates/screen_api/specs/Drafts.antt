@@ -3,8 +3,9 @@ use Prim.Native.Nat.{ℕ}
 use mathlib.Core.Path.{_≡_}
 use mathlib.Core.List.{List}
 use Rattle.refusal.specs.Refusals.{Told}
+use Rattle.draft.specs.Marks.{LongDraft}
 use Rattle.draft.specs.History.{Call, clear, afterCall, callTold, netsHere, netsTold, Empty}
-use Rattle.draft.specs.Code.{LongDraft, GoesOn, After}
+use Rattle.draft.specs.Code.{GoesOn, After}
 use Rattle.screen_api.specs.Numbers.{packed, entryNumber, refusalIn, placeIn}
 
 -- C reads in r just what was answered: no place of a draft's refusal is over 2^32 - 1

@@ -4,8 +4,7 @@ use mathlib.Core.Path.{sym, _∙_}
 use borrow.Author.Needs.{needs}
 use Rattle.lists.specs.Tests.{true→T, false→fails, within→}
 use Rattle.channel.specs.Channel.{widest}
-use Rattle.draft.specs.CodeLaws.{count-inside}
-use Rattle.draft.specs.CountLaws.{count-outside}
+use Rattle.draft.specs.CountLaws.{count-inside, count-outside}
 use Rattle.draft.specs.DoneLaws.{count-refused, count-done}
 use Rattle.draft.proofs.count.Statement.{statement}
 use Rattle.draft.proofs.count.Tie as tie
@@ -23,7 +22,7 @@ returns-2 c =
     let inside = within→ 1 (start .args .c .0) widest (true→T _ (c .before .if2 .taken)) in
     let k = c .marks-of .ensures in
     count-done _ _ (omega arith) (λ i below. first .shared-slice-known .given i .fits)
-    (k .0 ∙ sym (count-inside _ _ (inside .0) (inside .1))) (k .1)
+    (k .0 ∙ sym (count-inside _ _ inside)) (k .1)
 
 returns-3 : tie.Need-returns-3
 returns-3 c =

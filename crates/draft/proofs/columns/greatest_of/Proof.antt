@@ -9,7 +9,7 @@ use denote.Ref.{now}
 use Rattle.lists.specs.Lists.{from, upTo, greatest}
 use Rattle.lists.specs.Updates.{greatest-next}
 use Rattle.draft.specs.Marks.{countOf, greatestOf}
-use Rattle.draft.specs.CodeLaws.{count-inside}
+use Rattle.draft.specs.CountLaws.{count-inside}
 use Rattle.draft.proofs.columns.greatest_of.Statement.{statement}
 use Rattle.draft.proofs.columns.greatest_of.Tie as tie
 
@@ -32,7 +32,7 @@ loop-again c =
     let l = c .before .before .before .loop in
     let words = now (c .before .before .before .before .before .args .words) in
     let here = c .before .marks-of .ensures in
-    let inside = count-inside words (l .c + 1) (omega arith) (omega arith) in
+    let inside = count-inside words (l .c + 1) (omega arith, omega arith) in
     let next = greatest-next (countOf words) (l .c) in
     let larger = c .larger .ensures in
     (omega arith, omega (arith, l .inv .1, here .0, inside, next, larger), omega (arith, l .inv .2, here .1, larger))
