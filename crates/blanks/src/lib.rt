@@ -1,4 +1,6 @@
 // The blanks that boards are made on: the stock's, and those of a customer's own laminate.
+#![tactic(auto)]
+
 mod laminate;
 mod search;
 

@@ -2,7 +2,7 @@
 use Prim.Native.Nat.{ℕ, zero, suc, min, max, ◌≤◌, ◌<◌}
 use native.Mathlib.Omega.{arith}
 use Rattle.std.proofs.Math.Decide.{dec_lt}
-use Rattle.std.specs.Prelude.{◌≡◌, List, Bool, cond, ◌⊎◌, length, get_or, set, eqb}
+use Rattle.std.specs.Prelude.{◌≡◌, List, Bool, cond, length, get_or, set, eqb}
 use Rattle.std.proofs.Math.Path.{refl, sym, ap, subst}
 use Rattle.std.proofs.Common.{◌∙◌, get_or-set_same, get_or-set_other, eqb→eq}
 use Rattle.std.proofs.Math.Logic.{⊎_elim}

@@ -1,5 +1,7 @@
 // Classes of elements that are joined, for elements of any sort: a union-find in the numbers that are lent, chains of
 // the elements on each line, and a sweep that joins the ranges on a line that overlap.
+#![tactic(auto)]
+
 mod chains;
 mod forest;
 mod halves;

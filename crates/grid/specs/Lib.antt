@@ -2,6 +2,4 @@ pub mod Pieces
 pub mod Words
 pub mod WordLaws
 pub mod Touching
-pub mod TouchLaws
 pub mod Flipped
-pub mod FlipLaws

@@ -1,5 +1,7 @@
 // The grid of a board: its numbers, each with a type of its own so that a column is never taken where a track is due,
 // and the pieces of copper that lie on it.
+#![tactic(auto)]
+
 ghost use Rattle.std.specs.Prelude.{◌≡◌};
 ghost use Rattle.grid.specs.Touching.{kinds_meet};
 
@@ -21,20 +23,20 @@ pub const BRANCH: u32 = 1;
 
 pub const CONTACT: u32 = 2;
 
-#[derive(Drop)]
+#[derive(Clone, Copy)]
 pub struct Column(pub u32);
 
-#[derive(Drop)]
+#[derive(Clone, Copy)]
 pub struct Track(pub u32);
 
 // Rows are 0 to tracks + 1: BOT pins stand in row 0, TOP pins in the last row, track k is row k.
-#[derive(Drop)]
+#[derive(Clone, Copy)]
 pub struct Row(pub u32);
 
-#[derive(Drop)]
+#[derive(Clone, Copy)]
 pub struct Net(pub u32);
 
-#[derive(Drop)]
+#[derive(Clone, Copy)]
 pub enum Piece {
     // copper along a track, on the trunk side
     Trunk {

@@ -1,5 +1,5 @@
 -- The peeling as the code carries it: the queue has those gone, those of the present level and those ahead, end to end.
-use Rattle.std.specs.Prelude.{ℕ, suc, ◌+◌, ◌-◌, ◌≤◌, ◌<◌, ◌≡◌, refl, length, get_or, take, eqb}
+use Rattle.std.specs.Prelude.{ℕ, suc, ◌+◌, ◌-◌, ◌≤◌, ◌<◌, ◌≡◌, refl, length, get_or, eqb}
 use Rattle.std.proofs.Common.{add-one, arith, sym, ◌∙◌, ap, length-append, get_or-take}
 use mathlib.Core.List.Memᴰ
 use mathlib.Core.List.{List, [], ◌∷◌, ◌++◌, map, append-nil, append_assoc, Memᴰ}

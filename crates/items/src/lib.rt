@@ -1,5 +1,7 @@
 // Items with spans, and steps between them: their order, their density, and the chain of their steps. Nets of a channel
 // are one kind of item. Items have numbers from 1 on; a table by item number has what is known of item n at place n.
+#![tactic(auto)]
+
 mod chain;
 mod density;
 mod order;

@@ -76,7 +76,7 @@ tally-times (m ∷ ms) counts n low =
     let rest = tally-times ms (set counts m (get_or counts m 0 + 1)) n
     (λ k h. rw length-set (low (suc k) (omega arith))) in
     ⊎_elim (λ e. let q = get_or-set_same counts m (get_or counts m 0 + 1) 0 (low 0 (omega arith)) in
-    rw e (let r = rw e at rest in let s = times-same m ms in omega arith))
+    rw e (let r = rw e at rest in let s = times-same m ms in grind (arith, r, s, q)))
     (λ apart. let q = get_or-set_other counts m n (get_or counts m 0 + 1) 0 apart in
     let s = times-other n m ms apart in omega arith) (equal? n m)
 
@@ -107,7 +107,7 @@ lowered-times (m ∷ ms) counts n enough =
     let rest = lowered-times ms (set counts m (get_or counts m 0 - 1)) n (still-enough m ms counts enough) in
     let e = enough n in
     ⊎_elim (λ q. let hit = get_or-set_same counts m (get_or counts m 0 - 1) 0 (counted-inside m ms counts enough) in
-    let one = times-same m ms in rw q (let f = rw q at e in let r = rw q at rest in omega arith))
+    let one = times-same m ms in rw q (let f = rw q at e in let r = rw q at rest in grind (arith, f, r, one, hit)))
     (λ apart. let miss = get_or-set_other counts m n (get_or counts m 0 - 1) 0 apart in
     let same = times-other n m ms apart in omega arith) (equal? n m)
 

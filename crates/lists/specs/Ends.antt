@@ -13,10 +13,12 @@ use Rattle.lists.specs.Members.{keep-member, kept, from_member}
 module _ {A : Type 0} where
   pub head-member : (d : A) {xs : List A} {x : A} → Memᴰ x xs → Memᴰ (head_or d xs) xs
   unfolding head_or
+  head-member d {xs = []} m = elim m [ ]
   head-member d {xs = y ∷ ys} m = mathlib.Core.List.Memᴰ.head refl
 
   pub last-member : (d : A) {xs : List A} {x : A} → Memᴰ x xs → Memᴰ (last_or d xs) xs
   unfolding last_or
+  last-member d {xs = []} m = elim m [ ]
   last-member d {xs = y ∷ []} m = mathlib.Core.List.Memᴰ.head refl
   last-member d {xs = y ∷ (z ∷ zs)} m = mathlib.Core.List.Memᴰ.tail (last-member y {xs = z ∷ zs} {x = z} (mathlib.Core.List.Memᴰ.head refl))
 
@@ -88,7 +90,8 @@ at-inside [] (suc k) h = absurd (omega arith)
 at-inside (x ∷ xs) (suc zero) h = (omega arith, omega arith)
 at-inside (x ∷ xs) (suc (suc k)) h = let r = at-inside xs (suc k) h in (omega arith, omega arith)
 
-pub member-at : {row : List ℕ} {x : ℕ} → Memᴰ x row → (i : ℕ) × (i < length row) × (get_or row i 0 ≡ x)
+pub member-at : {x : ℕ} {row : List ℕ} → Memᴰ x row → (i : ℕ) × (i < length row) × (get_or row i 0 ≡ x)
+member-at {row = []} x3 = elim x3 [ ]
 member-at {row = y ∷ ys} (mathlib.Core.List.Memᴰ.head e) = (0, omega arith, sym e)
 member-at {row = y ∷ ys} (mathlib.Core.List.Memᴰ.tail m) = let r = member-at m in (suc r.0, (let h = r.1 in omega arith), r.2)
 

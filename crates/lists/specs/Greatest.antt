@@ -9,9 +9,10 @@ use mathlib.Core.List.{List, [], ◌∷◌, map, Memᴰ}
 use Rattle.lists.specs.Lists.{greatest, at}
 
 module _ {A : Type 0} (f : A → ℕ) where
-  pub greatest-map-upper : {xs : List A} {x : A} → Memᴰ x xs → f x ≤ greatest (map f xs)
+  pub greatest-map-upper : {x : A} {xs : List A} → Memᴰ x xs → f x ≤ greatest (map f xs)
   unfolding greatest
-  greatest-map-upper {xs = y ∷ ys} {x = x} (Memᴰ.head e) =
+  greatest-map-upper {x = x} {xs = []} x3 = elim x3 [ ]
+  greatest-map-upper {x = x} {xs = y ∷ ys} (Memᴰ.head e) =
       subst (λ (z : A). f x ≤ max (f z) (greatest (map f ys))) e (omega arith)
   greatest-map-upper {xs = y ∷ ys} (Memᴰ.tail m) = let h = greatest-map-upper m in omega arith
 
@@ -35,8 +36,9 @@ module _ {A : Type 0} (f : A → ℕ) where
             (r.0, Memᴰ.tail r.1, omega arith))
       ]
 
-pub member≤greatest : {xs : List ℕ} {x : ℕ} → Memᴰ x xs → x ≤ greatest xs
+pub member≤greatest : {x : ℕ} {xs : List ℕ} → Memᴰ x xs → x ≤ greatest xs
 unfolding greatest
+member≤greatest {xs = []} x3 = elim x3 [ ]
 member≤greatest {xs = y ∷ ys} (Memᴰ.head e) = omega arith
 member≤greatest {xs = y ∷ ys} (Memᴰ.tail m) = let h = member≤greatest m in omega arith
 

@@ -25,14 +25,15 @@ module _ {A : Type 0} where
           (λ m. let r = rest m in (Memᴰ.tail r.0, r.1)) (Memᴰ.cases_cons k)
       go false e k rest = let r = rest k in (Memᴰ.tail r.0, r.1)
 
-  pub kept : (f : A → Bool) {xs : List A} {x : A} → Memᴰ x xs → T (f x) → Memᴰ x (keep f xs)
+  pub kept : (f : A → Bool) {x : A} {xs : List A} → Memᴰ x xs → T (f x) → Memᴰ x (keep f xs)
   unfolding keep
-  kept f {xs = y ∷ ys} {x = x} (Memᴰ.head e) h = go (f y) (subst (λ (z : A). T (f z)) e h)
+  kept f {x = x} {xs = []} x6 h = elim x6 [ ]
+  kept f {x = x} {xs = y ∷ ys} (Memᴰ.head e) h = go (f y) (subst (λ (z : A). T (f z)) e h)
     where
       go : (b : Bool) → T b → Memᴰ x (cond b (y ∷ keep f ys) (keep f ys))
       go true t = Memᴰ.head e
       go false t = absurd t
-  kept f {xs = y ∷ ys} {x = x} (Memᴰ.tail m) h = go (f y) (kept f m h)
+  kept f {x = x} {xs = y ∷ ys} (Memᴰ.tail m) h = go (f y) (kept f m h)
     where
       go : (b : Bool) → Memᴰ x (keep f ys) → Memᴰ x (cond b (y ∷ keep f ys) (keep f ys))
       go true k = Memᴰ.tail k
@@ -53,14 +54,16 @@ module _ {A : Type 0} where
       ⊎_elim (λ k. (y, Memᴰ.head refl, k)) (λ k. let r = any→member f ys k in (r.0, Memᴰ.tail r.1, r.2))
       (or_cases (f y) (any_of f ys) h)
 
-  pub member→any : (f : A → Bool) {xs : List A} {x : A} → Memᴰ x xs → T (f x) → T (any_of f xs)
+  pub member→any : (f : A → Bool) {x : A} {xs : List A} → Memᴰ x xs → T (f x) → T (any_of f xs)
   unfolding any_of
+  member→any f {xs = []} x6 h = elim x6 [ ]
   member→any f {xs = y ∷ ys} (Memᴰ.head e) h = or_left (f y) (any_of f ys) (subst (λ (z : A). T (f z)) e h)
   member→any f {xs = y ∷ ys} (Memᴰ.tail m) h = or_right (f y) (any_of f ys) (member→any f m h)
 
-  pub all→member : (f : A → Bool) {xs : List A} {x : A} → T (all_of f xs) → Memᴰ x xs → T (f x)
+  pub all→member : (f : A → Bool) {x : A} {xs : List A} → T (all_of f xs) → Memᴰ x xs → T (f x)
   unfolding all_of
-  all→member f {xs = y ∷ ys} {x = x} h (Memᴰ.head e) =
+  all→member f {x = x} {xs = []} h x6 = elim x6 [ ]
+  all→member f {x = x} {xs = y ∷ ys} h (Memᴰ.head e) =
       subst (λ (z : A). T (f z)) (sym e) (and_left (f y) (all_of f ys) h)
   all→member f {xs = y ∷ ys} h (Memᴰ.tail m) = all→member f (and_right (f y) (all_of f ys) h) m
 
@@ -78,9 +81,10 @@ module _ {A : Type 0} where
       ⊎_elim (λ k. (x, Memᴰ.head refl, k)) (λ k. let r = each_member f xs k in (r.0, Memᴰ.tail r.1, r.2))
       (Memᴰ.append_cases (f x) h)
 
-  pub in-each : {B : Type 0} (f : A → List B) {xs : List A} {x : A} {y : B} → Memᴰ x xs → Memᴰ y (f x)
+  pub in-each : {B : Type 0} (f : A → List B) {x : A} {xs : List A} {y : B} → Memᴰ x xs → Memᴰ y (f x)
       → Memᴰ y (each f xs)
   unfolding each
+  in-each {B = B} f {xs = []} {y = y} x6 k = elim x6 [ ]
   in-each f {xs = z ∷ zs} {y = y} (Memᴰ.head e) k =
       Memᴰ.append_left (each f zs) (subst (λ w. Memᴰ y (f w)) e k)
   in-each f {xs = z ∷ zs} (Memᴰ.tail m) k = Memᴰ.append_right (f z) (in-each f m k)

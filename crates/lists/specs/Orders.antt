@@ -58,6 +58,7 @@ least-member x (y ∷ ys) =
 
 -- the same, of a list that has a member
 pub least-among : {x : ℕ} {xs : List ℕ} → Memᴰ x xs → Memᴰ (least xs) xs
+least-among {xs = []} m = elim m [ ]
 least-among {xs = y ∷ ys} m = least-member y ys
 
 -- and none of them is lower

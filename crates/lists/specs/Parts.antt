@@ -85,6 +85,7 @@ each_same f g (x ∷ xs) h =
 module _ (f : ℕ → ℕ) where
   pub head-map : {xs : List ℕ} {x : ℕ} → Memᴰ x xs → head_or 0 (map f xs) ≡ f (head_or 0 xs)
   unfolding head_or
+  head-map {xs = []} m = elim m [ ]
   head-map {xs = y ∷ ys} m = refl
 
   last-behind : (x : ℕ) (xs : List ℕ) → last_or (f x) (map f xs) ≡ f (last_or x xs)
@@ -94,6 +95,7 @@ module _ (f : ℕ → ℕ) where
 
   pub last-map : {xs : List ℕ} {x : ℕ} → Memᴰ x xs → last_or 0 (map f xs) ≡ f (last_or 0 xs)
   unfolding last_or
+  last-map {xs = []} m = elim m [ ]
   last-map {xs = y ∷ ys} m = last-behind y ys
 
 pub greatest-append : (xs ys : List ℕ) → greatest (xs ++ ys) ≡ max (greatest xs) (greatest ys)

@@ -93,11 +93,12 @@ module _ {A : Type 0} (f : A → Bool) where
       go true h = omega arith
       go false h = omega arith
 
-  pub length-keep-less : {xs : List A} {x : A} → Memᴰ x xs → f x ≡ false → length (keep f xs) < length xs
+  pub length-keep-less : {x : A} {xs : List A} → Memᴰ x xs → f x ≡ false → length (keep f xs) < length xs
   unfolding keep
-  length-keep-less {xs = y ∷ ys} {x = x} (Memᴰ.head e) h =
+  length-keep-less {x = x} {xs = []} x6 h = elim x6 [ ]
+  length-keep-less {x = x} {xs = y ∷ ys} (Memᴰ.head e) h =
       rw (subst (λ (z : A). f z ≡ false) e h) (let l = length-keep ys in omega arith)
-  length-keep-less {xs = y ∷ ys} {x = x} (Memᴰ.tail m) h = go (f y) (length-keep-less m h)
+  length-keep-less {x = x} {xs = y ∷ ys} (Memᴰ.tail m) h = go (f y) (length-keep-less m h)
     where
       go : (b : Bool) → length (keep f ys) < length ys → length (cond b (y ∷ keep f ys) (keep f ys)) < suc (length ys)
       go true k = omega arith

@@ -14,7 +14,8 @@ use Rattle.lists.specs.Lists.{keep, each}
 use Rattle.lists.specs.Members.{keep-member, kept}
 
 module _ {A : Type 0} where
-  pub member-place : {xs : List A} {x : A} → Memᴰ x xs → (k : ℕ) × (get_elem? xs k ≡ some x)
+  pub member-place : {x : A} {xs : List A} → Memᴰ x xs → (k : ℕ) × (get_elem? xs k ≡ some x)
+  member-place {xs = []} x3 = elim x3 [ ]
   member-place {xs = y ∷ ys} (Memᴰ.head e) = (zero, ap {B = Option A} some (sym e))
   member-place {xs = y ∷ ys} (Memᴰ.tail m) = let r = member-place m in (suc r.0, r.1)
 

@@ -1,3 +1,5 @@
+#![tactic(auto)]
+
 ghost use Rattle.std.specs.Prelude.{◌≡◌};
 ghost use Rattle.refusal.specs.Refusals.{number_of, place_of};
 
@@ -17,7 +19,7 @@ pub const DRAFT_TRAY: usize = 4096;
 
 // The refusals that an operation may answer, by the shop's words, each with its place. Numbers 6, 17, 19 and 20 are not
 // in use. The judge's faults, numbers 11 to 13, are an enum of their own beside the judge.
-#[derive(Drop)]
+#[derive(Clone, Copy)]
 pub enum Refusal {
     // 1: a lent buffer is too short; the length needed
     ShortTray(usize),

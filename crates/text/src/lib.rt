@@ -1,4 +1,6 @@
 // Words and numbers put as lines into a lent buffer.
+#![tactic(auto)]
+
 ghost use Rattle.std.specs.Prelude.{◌+◌, ◌*◌, ◌≤◌, length};
 ghost use Rattle.lists.specs.Lists.{each};
 ghost use Rattle.text.specs.Lines.{field, line_of, Put};

@@ -8,5 +8,5 @@ returns : tie.Need-returns
 unfolding kinds_meet
 returns c = search rules
 
-pub kinds-meet-spec : {M : Type 1} → statement M
-kinds-meet-spec = tie.close (tie.spec returns)
+pub kinds_meet_spec : {M : Type 1} → statement M
+kinds_meet_spec = tie.close (tie.spec returns)

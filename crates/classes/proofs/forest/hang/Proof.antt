@@ -11,14 +11,14 @@ use Rattle.classes.proofs.forest.hang.Tie as tie
 number-requires : tie.Need-number-requires
 number-requires c κs =
     let a = c.before.before.before.args in
-    omega (arith, c.before.slice-known2.given a.child, high-times (get_or a.forest.now a.child 0))
+    omega (arith, c.before.slice_known-2-1.given a.child, high-times (get_or a.forest.now a.child 0))
 
 returns : tie.Need-returns
 unfolding hung
 returns c = cc
 
-pub hang-spec : {M : Type 1} → statement M
-hang-spec =
+pub hang_spec : {M : Type 1} → statement M
+hang_spec =
     tie.close
     (tie.spec (λ c. search rules) (λ c. search rules) (λ c. search rules) (λ c κs. search rules) number-requires
     (λ c. search rules) (λ c. search rules) (λ c. search rules) returns)

@@ -8,7 +8,7 @@ returns : tie.Need-returns
 unfolding parent_of
 returns c = search rules
 
-pub parent-spec : {M : Type 1} → statement M
-parent-spec =
+pub parent_spec : {M : Type 1} → statement M
+parent_spec =
     tie.close
     (tie.spec (λ c. search rules) (λ c. search rules) (λ c κs. search rules) (λ c. search rules) returns)

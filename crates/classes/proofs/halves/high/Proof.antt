@@ -8,5 +8,5 @@ returns : tie.Need-returns
 unfolding high_half
 returns c = search rules
 
-pub high-spec : {M : Type 1} → statement M
-high-spec = tie.close (tie.spec returns)
+pub high_spec : {M : Type 1} → statement M
+high_spec = tie.close (tie.spec returns)

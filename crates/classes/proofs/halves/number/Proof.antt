@@ -8,5 +8,5 @@ returns : tie.Need-returns
 unfolding number_of
 returns c = search rules
 
-pub number-spec : {M : Type 1} → statement M
-number-spec = tie.close (tie.spec (λ c. search rules) (λ c. search rules) returns)
+pub number_spec : {M : Type 1} → statement M
+number_spec = tie.close (tie.spec (λ c. search rules) (λ c. search rules) returns)

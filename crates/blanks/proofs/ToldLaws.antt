@@ -15,8 +15,9 @@ use Rattle.blanks.specs.Stock.{stock, smallest_for, no_blank, blank_answer, blan
 use Rattle.blanks.specs.Laminate.{own_refusal, own_answer}
 use Rattle.blanks.specs.Promise.{BadAt, no-count, first-bad}
 use Rattle.blanks.specs.Code.{value_told}
-use Rattle.blanks.specs.OwnLaws.{Outcome, over, bad, none-holds, held, outcome, done}
-use Rattle.blanks.specs.StockLaws.{stock-passes, stock-chosen}
+use Rattle.blanks.proofs.OwnLaws.{Outcome}
+use Rattle.blanks.proofs.OwnLaws.{over, bad, none-holds, held, outcome, done}
+use Rattle.blanks.proofs.StockLaws.{stock-passes, stock-chosen}
 
 module _ (t : ℕ) where
   pub blank-told : blank_told (blank_answer t) ≡ told_by (no_blank t) (smallest_for stock t ∷ [])

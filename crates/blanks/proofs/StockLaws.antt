@@ -14,7 +14,7 @@ use Rattle.blanks.specs.Promise.{Passes, Chosen}
 use Rattle.blanks.specs.Code.{FirstThatHolds}
 use Rattle.blanks.specs.ChosenLaws.{smallest-holds}
 use Rattle.blanks.specs.TableLaws.{found_none}
-use Rattle.blanks.specs.OwnLaws.{past-table, found-held, done, over, held}
+use Rattle.blanks.proofs.OwnLaws.{past-table, found-held, done, over, held}
 
 stock-length : length stock ≡ 12
 unfolding stock

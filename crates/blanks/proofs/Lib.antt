@@ -1,0 +1,3 @@
+pub mod OwnLaws
+pub mod StockLaws
+pub mod ToldLaws

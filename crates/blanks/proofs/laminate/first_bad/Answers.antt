@@ -1,0 +1,38 @@
+use Rattle.std.proofs.Common.{◌≡◌, refl, sym, arith, below_more}
+use mathlib.Core.Logic.{⊎_elim}
+use Rattle.lists.specs.Lists.{at}
+use Rattle.lists.specs.Ends.{at_suc, at_next}
+use Rattle.blanks.specs.LaminateLaws.{bad-found, none-bad}
+use Rattle.blanks.proofs.laminate.first_bad.Goals as goal
+
+pub loop-i-init : goal.loop-i-init
+unfolding at
+loop-i-init c = (omega arith, refl, λ k l. absurd (omega arith))
+
+pub returns-then-entry-before : goal.returns-then-entry-before
+returns-then-entry-before c =
+    let table = c.args.table.now in
+    let i = c.loop-i.i in
+    let last = c.loop-i.invariant.1 in
+    let entry = at_suc table i in
+    bad-found table i (omega arith) c.loop-i.invariant.2 (λ s.
+    let above = s.above in
+    let few = s.few in
+    ⊎_elim (λ w. omega arith) (λ w. omega arith) c.then-entry-before.either)
+
+pub loop-i-preserved : goal.loop-i-preserved
+loop-i-preserved c =
+    let table = c.args.table.now in
+    let i = c.loop-i.i in
+    let last = c.loop-i.invariant.1 in
+    let entry = at_suc table i in (
+      omega arith,
+      sym (at_next table i),
+      below_more _ _ c.loop-i.invariant.2 (record {
+        above = omega arith;
+        few = omega arith;
+      }),
+    )
+
+pub returns : goal.returns
+returns c = none-bad _ (λ k l. c.loop-i.invariant.2 k (omega arith))

@@ -1,0 +1,2 @@
+pub mod TouchLaws
+pub mod FlipLaws
