@@ -1,6 +1,7 @@
-// The board reader: opened over the lent bytes of a board file, it answers the piece of a given number. The checker
-// covers no function over a struct that holds a slice, so those are thin and proved by walks; the branches are in
-// functions on the slice and the numbers.
+// The board reader: opened over the lent bytes of a board file, it answers the piece of a given number. Its branches are
+// in functions on the slice and the numbers.
+#![tactic(auto)]
+
 ghost use Rattle.std.specs.Prelude.{◌≡◌};
 ghost use Rattle.boardfile.specs.Open.{open_answer};
 ghost use Rattle.board_reader.specs.Reader.{reader_count, reader_piece, read_answer};

@@ -1,4 +1,6 @@
 // The board file: the words that a writer puts, and what the reader of a file of any bytes answers.
+#![tactic(auto)]
+
 ghost use Rattle.std.specs.Prelude.{◌≡◌, ◌+◌, ◌*◌, ◌≤◌, ◌<◌, length};
 ghost use Rattle.std.proofs.lemmas.List.Edits.{sets};
 ghost use Rattle.boardfile.specs.Encode.{word, header, piece_word};

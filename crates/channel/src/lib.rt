@@ -1,4 +1,6 @@
 // A channel handed over as two rows of net numbers, and what is answered about it.
+#![tactic(auto)]
+
 mod lower_bounds;
 mod parked;
 mod rows;

@@ -8,7 +8,7 @@ ghost use Rattle.channel.specs.Parked.{NetsOnly};
 use grid::{Column, NET_SLOTS, Net};
 
 // The columns of each net, by its number; column 0 where a number is no net's.
-#[derive(Drop)]
+#[derive(Clone, Copy)]
 pub struct Spans {
     pub first: [Column; NET_SLOTS],
     pub last: [Column; NET_SLOTS],

@@ -1,6 +1,6 @@
 -- The code's sums and loops give what the definitions say: four words and four more are eight; a column more is looked
 -- at or changed in each turn, before which its word is as it was.
-use Rattle.std.specs.Prelude.{ℕ, suc, ◌+◌, ◌-◌, ◌/◌, ◌%◌, ◌≤◌, ◌<◌, ◌≡◌, List, Bool, false, cond, length, get_or, set, take, drop, T, eqb}
+use Rattle.std.specs.Prelude.{ℕ, suc, ◌+◌, ◌/◌, ◌%◌, ◌≤◌, ◌<◌, ◌≡◌, List, Bool, false, cond, length, get_or, set, take, drop, T, eqb}
 use Rattle.std.proofs.Common.{arith, add-one, ◌∙◌, ap, drop-cons, take-add, drop-drop, eqb→eq}
 use Rattle.std.proofs.Math.Path.{refl, sym}
 use Rattle.std.proofs.Math.Logic.{⊎_elim}

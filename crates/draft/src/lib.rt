@@ -1,5 +1,7 @@
 // A draft: the density of a list while nets come and go (02, Req 14). It is lent memory of 4,096 words of 64 bits, in
 // which each column keeps one mark for each net over it.
+#![tactic(auto)]
+
 mod column;
 mod columns;
 mod word;

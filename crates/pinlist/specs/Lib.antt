@@ -2,13 +2,6 @@ pub mod Form
 pub mod Reader
 pub mod Answers
 pub mod Promise
-pub mod Runs
-pub mod LineLaws
-pub mod ReaderLaws
 pub mod Code
-pub mod CodeLaws
-pub mod TextLaws
-pub mod RowLaws
 pub mod KeptLaws
-pub mod ReadLaws
 pub mod ToldLaws

@@ -8,7 +8,7 @@ use Rattle.refusal.specs.ToldLaws.{answered-told, told-success}
 use Rattle.refusal.specs.Trays.{short_tray}
 use Rattle.channel.specs.Channel.{width, widest}
 use Rattle.channel.specs.Answers.{rows_refusal}
-use Rattle.channel.specs.EscapeLaws.{accepted-exactly}
+use Rattle.channel.proofs.EscapeLaws.{accepted-exactly}
 use Rattle.pinlist.specs.declared.ReadAnswer.TheVariants.{Width}
 use Rattle.pinlist.specs.Reader.{read_text}
 use Rattle.pinlist.specs.Answers.{garbled_refusal, text_channel, text_refusal, read_refusal, read_answer, read_told}

@@ -1,4 +1,6 @@
 // A pin list as a text, read into two lent rows.
+#![tactic(auto)]
+
 mod line;
 mod number;
 

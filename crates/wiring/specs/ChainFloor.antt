@@ -9,9 +9,9 @@ use Rattle.grid.specs.Pieces.{Layout}
 use Rattle.channel.specs.Channel.{Channel, spanning}
 use Rattle.channel.specs.Constraints.{Path↓, alone, down, chain}
 use Rattle.channel.specs.Answers.{Escapes}
-use Rattle.channel.specs.Laws.{net→pin, pin-in-first, pin-in-last}
-use Rattle.channel.specs.SpanLaws.{spanning→, span-strict}
-use Rattle.channel.specs.ChainLaws.{chain-promise}
+use Rattle.channel.proofs.Laws.{net→pin, pin-in-first, pin-in-last}
+use Rattle.channel.proofs.SpanLaws.{spanning→, span-strict}
+use Rattle.channel.proofs.ChainLaws.{chain-promise}
 use Rattle.wiring.specs.Layouts.{Good, OneTrunkEach}
 use Rattle.wiring.specs.Floor.{trunk-track}
 use Rattle.wiring.specs.Order.{pin_of_lem, leaves-column, HasTrack, leaves→track, above→lower, one-track, no-ring}

@@ -1,6 +1,6 @@
 -- Chains of touches: they are put end to end, made longer by one touch, and turned round.
 use Rattle.std.specs.Prelude.{ℕ}
-use Rattle.grid.specs.TouchLaws.{touch-sym}
+use Rattle.grid.proofs.TouchLaws.{touch-sym}
 use Rattle.grid.specs.Pieces.{Layout}
 use Rattle.channel.specs.Channel.{Channel}
 use Rattle.wiring.specs.Layouts.{Element, pin, copper, Present, Touching, Joined, itself, link}

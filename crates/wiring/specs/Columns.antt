@@ -12,7 +12,7 @@ use Rattle.lists.specs.Tests.{equal?}
 use Rattle.grid.specs.declared.Piece.{Piece}
 use Rattle.grid.specs.Pieces.{kind_of, trunk_kind, branch_kind, left, right, low, high, Layout}
 use Rattle.grid.specs.Touching.{Covers}
-use Rattle.grid.specs.TouchLaws.{one-row, one-column, met-branch}
+use Rattle.grid.proofs.TouchLaws.{one-row, one-column, met-branch}
 use Rattle.channel.specs.Channel.{Channel, width}
 use Rattle.wiring.specs.Pins.{Pin, column_of, row_of}
 use Rattle.wiring.specs.Layouts.{Element, pin, copper, Present, Touching, Joined, itself, link, AllOnGrid}

@@ -8,7 +8,7 @@ use Rattle.std.proofs.Math.Logic.{⊎_elim}
 use Rattle.lists.specs.Tests.{equal?}
 use Rattle.grid.specs.declared.Piece.{Piece}
 use Rattle.grid.specs.Pieces.{kind_of, trunk_kind, left, right, Layout}
-use Rattle.grid.specs.TouchLaws.{one-column}
+use Rattle.grid.proofs.TouchLaws.{one-column}
 use Rattle.channel.specs.Channel.{Channel}
 use Rattle.wiring.specs.Pins.{column_of}
 use Rattle.wiring.specs.Layouts.{Element, pin, copper, Present, Touching, Joined, itself, link}

@@ -13,13 +13,13 @@ use Rattle.lists.specs.Pigeonhole.{injection}
 use Rattle.grid.specs.declared.Piece.{Piece}
 use Rattle.grid.specs.Pieces.{kind_of, trunk_kind, left, right, low, high, Layout}
 use Rattle.grid.specs.Touching.{Touch}
-use Rattle.grid.specs.TouchLaws.{one-row, same-kind-meets}
+use Rattle.grid.proofs.TouchLaws.{one-row, same-kind-meets}
 use Rattle.channel.specs.Channel.{Channel, width, last_column}
 use Rattle.channel.specs.Density.{density}
 use Rattle.channel.specs.Answers.{Escapes}
-use Rattle.channel.specs.Laws.{net→pin, pin-in-first, pin-in-last}
-use Rattle.channel.specs.SpanLaws.{span-strict, spanning→}
-use Rattle.channel.specs.DensityLaws.{nets_over, Over, over→, over-distinct, density-reached}
+use Rattle.channel.proofs.Laws.{net→pin, pin-in-first, pin-in-last}
+use Rattle.channel.proofs.SpanLaws.{span-strict, spanning→}
+use Rattle.channel.proofs.DensityLaws.{nets_over, Over, over→, over-distinct, density-reached}
 use Rattle.wiring.specs.Pins.{Pin, net_of, IsPin}
 use Rattle.wiring.specs.Layouts.{pin, copper, Present, Touching, Joined, Good}
 use Rattle.wiring.specs.Chains.{joined-trans, joined_snoc, joined-sym}

@@ -14,12 +14,12 @@ use Rattle.lists.specs.Ranges.{member-place}
 use Rattle.grid.specs.declared.Piece.{Piece}
 use Rattle.grid.specs.Pieces.{low, Layout}
 use Rattle.grid.specs.Touching.{Touch}
-use Rattle.grid.specs.TouchLaws.{one-row, same-kind-meets}
+use Rattle.grid.proofs.TouchLaws.{one-row, same-kind-meets}
 use Rattle.channel.specs.Channel.{Channel, width}
 use Rattle.channel.specs.Constraints.{Above, Step, Descends, last, next, Ring}
 use Rattle.channel.specs.Answers.{Escapes}
-use Rattle.channel.specs.Laws.{PinIn, net-positive}
-use Rattle.channel.specs.SpanLaws.{upper-another, lower-another}
+use Rattle.channel.proofs.Laws.{PinIn, net-positive}
+use Rattle.channel.proofs.SpanLaws.{upper-another, lower-another}
 use Rattle.wiring.specs.Pins.{Pin, top, bot, column_of, row_of, net_of, IsPin}
 use Rattle.wiring.specs.Layouts.{pin, Present, Touching, Good, TrunkOf, OneTrunkEach}
 use Rattle.wiring.specs.Chains.{joined-trans, joined_snoc, joined-sym}

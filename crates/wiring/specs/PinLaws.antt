@@ -8,10 +8,10 @@ use Rattle.lists.specs.Ends.{at-inside}
 use Rattle.grid.specs.declared.Piece.{Piece}
 use Rattle.grid.specs.Pieces.{kind_of}
 use Rattle.grid.specs.Touching.{pin_meets, covers}
-use Rattle.grid.specs.TouchLaws.{covers→, →covers}
+use Rattle.grid.proofs.TouchLaws.{covers→, →covers}
 use Rattle.channel.specs.Channel.{Channel, width, is_net}
-use Rattle.channel.specs.Laws.{PinAmong, top-holds, bot-holds}
-use Rattle.channel.specs.ParkedLaws.{pin-parked, one_place}
+use Rattle.channel.proofs.Laws.{PinAmong, top-holds, bot-holds}
+use Rattle.channel.proofs.ParkedLaws.{pin-parked, one_place}
 use Rattle.wiring.specs.Pins.{Pin, top, bot, column_of, row_of, net_of, IsPin, PinTouch, pin_touches}
 
 pub pin-touches→ : (ch : Channel) (t : ℕ) (x : Pin) (p : Piece) → T (pin_touches ch t x p) → IsPin ch x × PinTouch t x p

@@ -11,7 +11,7 @@ use Rattle.lists.specs.Updates.{map-undone}
 use Rattle.grid.specs.declared.Piece.{Piece}
 use Rattle.grid.specs.Pieces.{OnGrid, Layout}
 use Rattle.grid.specs.Flipped.{over, flip, flipped}
-use Rattle.grid.specs.FlipLaws.{flip-kind, flip-on-grid, flip-flip, flip-covers, flip-touch}
+use Rattle.grid.proofs.FlipLaws.{flip-kind, flip-on-grid, flip-flip, flip-covers, flip-touch}
 use Rattle.grid.specs.Touching.{Covers}
 use Rattle.channel.specs.Channel.{Channel, width}
 use Rattle.channel.specs.Turned.{turned}

@@ -8,5 +8,5 @@ returns : tie.Need-returns
 unfolding fields_of
 returns c = refl
 
-pub fields-of-spec : {M : Type 1} → statement M
-fields-of-spec = tie.close (tie.spec returns)
+pub fields_of_spec : {M : Type 1} → statement M
+fields_of_spec = tie.close (tie.spec returns)

@@ -8,5 +8,5 @@ returns : tie.Need-returns
 unfolding header_of
 returns c = refl
 
-pub header-of-spec : {M : Type 1} → statement M
-header-of-spec = tie.close (tie.spec returns)
+pub header_of_spec : {M : Type 1} → statement M
+header_of_spec = tie.close (tie.spec returns)

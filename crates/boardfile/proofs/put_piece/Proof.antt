@@ -13,5 +13,5 @@ returns c =
     c.before.before.put_word.ensures ∙ ap (λ (v : ℕ). sets a.board.now a.at (word v))
     c.before.before.before.word_of.ensures
 
-pub put-piece-spec : {M : Type 1} → statement M
-put-piece-spec = tie.close (tie.spec (λ c κs. search rules) (λ c κs. search rules) (λ c. search rules) returns)
+pub put_piece_spec : {M : Type 1} → statement M
+put_piece_spec = tie.close (tie.spec (λ c κs. search rules) (λ c κs. search rules) (λ c. search rules) returns)

@@ -5,11 +5,11 @@ use Rattle.draft.specs.DoneLaws.{greatest-refused, greatest-done}
 use Rattle.draft.proofs.greatest.Statement.{statement}
 use Rattle.draft.proofs.greatest.Tie as tie
 
-returns : tie.Need-returns
-returns c = greatest-refused _ c.if1.true
+returns : tie.Need-returns-then-words-lt-DRAFT_TRAY
+returns c = greatest-refused _ c.if-words-lt-DRAFT_TRAY.true
 
-returns-2 : tie.Need-returns-2
-returns-2 c = let k = c.greatest-of.ensures in greatest-done _ (omega arith) k.0 k.1
+returns-2 : tie.Need-returns
+returns-2 c = let k = c.greatest_of.ensures in greatest-done _ (omega arith) k.0 k.1
 
-pub greatest-spec : {M : Type 1} → statement M
-greatest-spec = tie.close (tie.spec returns (λ c κs. search rules) returns-2)
+pub greatest_spec : {M : Type 1} → statement M
+greatest_spec = tie.close (tie.spec returns (λ c κs. search rules) returns-2)

@@ -6,5 +6,5 @@ use Rattle.draft.proofs.is_span.Tie as tie
 returns : tie.Need-returns
 returns c = cc
 
-pub is-span-spec : {M : Type 1} → statement M
-is-span-spec = tie.close (tie.spec (λ c κs. search rules) (λ c. search rules) returns)
+pub is_span_spec : {M : Type 1} → statement M
+is_span_spec = tie.close (tie.spec (λ c κs. search rules) (λ c. search rules) returns)

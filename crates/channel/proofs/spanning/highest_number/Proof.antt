@@ -12,11 +12,11 @@ use Rattle.lists.specs.Lists.{greatest}
 use Rattle.channel.proofs.spanning.highest_number.Statement.{statement}
 use Rattle.channel.proofs.spanning.highest_number.Tie as tie
 
-abbrev invariant-loop : tie.invariant-loop
+abbrev invariant-loop : tie.invariant-loop-i
 invariant-loop row highest₀ i₀ highest i =
     (i ≤ length row) × (max highest (greatest (drop i row)) ≡ max highest₀ (greatest row))
 
-abbrev decreases-loop : tie.decreases-loop
+abbrev decreases-loop : tie.decreases-loop-i
 decreases-loop row highest₀ i₀ highest i = length row - i
 
 next : (row : List ℕ) (i : ℕ) → i < length row
@@ -40,27 +40,27 @@ done : (row : List ℕ) (i high m : ℕ) → length row ≤ i → max high (grea
 unfolding greatest
 done row i high m h e = let z = rw (drop_of_length-le row h) at e in omega arith
 
-loop-less : tie.Need-loop-smaller invariant-loop decreases-loop
-loop-less c = let t = c.before.before in falls _ t.before.loop.i t.loop-test.true
+loop-less : tie.Need-loop-i-smaller-then-highest-n invariant-loop decreases-loop
+loop-less c = let t = c.before.before in falls _ t.before.loop-i.i t.loop-i-test.true
 
-loop-again : tie.Need-loop-preserved invariant-loop decreases-loop
+loop-again : tie.Need-loop-i-preserved-then-highest-n invariant-loop decreases-loop
 loop-again c =
     let t = c.before.before in
-    more _ t.before.loop.i _ _ t.loop-test.true t.before.loop.invariant.1 c.if1.true
+    more _ t.before.loop-i.i _ _ t.loop-i-test.true t.before.loop-i.invariant.1 c.if-highest-n.true
 
-loop-less-2 : tie.Need-loop-smaller-2 invariant-loop decreases-loop
-loop-less-2 c = let t = c.before.before in falls _ t.before.loop.i t.loop-test.true
+loop-less-2 : tie.Need-loop-i-smaller invariant-loop decreases-loop
+loop-less-2 c = let t = c.before.before in falls _ t.before.loop-i.i t.loop-i-test.true
 
-loop-again-2 : tie.Need-loop-preserved-2 invariant-loop decreases-loop
+loop-again-2 : tie.Need-loop-i-preserved invariant-loop decreases-loop
 loop-again-2 c =
     let t = c.before.before in
-    same _ t.before.loop.i _ _ t.loop-test.true t.before.loop.invariant.1 c.if1.false
+    same _ t.before.loop-i.i _ _ t.loop-i-test.true t.before.loop-i.invariant.1 c.if-highest-n.false
 
 returns : tie.Need-returns invariant-loop decreases-loop
-returns c = let l = c.before.loop in done _ l.i _ _ c.loop-test.false l.invariant.1
+returns c = let l = c.before.loop-i in done _ l.i _ _ c.loop-i-test.false l.invariant.1
 
-pub highest-number-spec : {M : Type 1} → statement M
-highest-number-spec =
+pub highest_number_spec : {M : Type 1} → statement M
+highest_number_spec =
     tie.close
     (tie.spec invariant-loop decreases-loop (λ c. (omega arith, refl)) (λ c. search rules) (λ c. search rules) (λ c. search rules)
     loop-less loop-again loop-less-2 loop-again-2 returns)

@@ -10,12 +10,12 @@ returns : tie.Need-returns
 returns c =
     let a = c.before.before.before.before.args in
     let eight = marks-eight a.words.now ((a.c.0 - 1) * 8) in
-    let k₁ = c.before.four-words.ensures in
-    let k₂ = c.four-words2.ensures in
+    let k₁ = c.before.four_words.ensures in
+    let k₂ = c.four_words-2.ensures in
     (omega (arith, eight, k₁.0, k₂.0), omega (arith, k₁.1, k₂.1))
 
-pub marks-of-spec : {M : Type 1} → statement M
-marks-of-spec =
+pub marks_of_spec : {M : Type 1} → statement M
+marks_of_spec =
     tie.close
     (tie.spec (λ c. search rules) (λ c. search rules) (λ c. search rules) (λ c κs. search rules) (λ c. search rules)
     (λ c κs. search rules) (λ c. search rules) returns)

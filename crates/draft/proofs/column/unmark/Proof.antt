@@ -6,8 +6,8 @@ use Rattle.draft.proofs.column.unmark.Tie as tie
 returns : tie.Need-returns
 returns c = cc
 
-pub unmark-spec : {M : Type 1} → statement M
-unmark-spec =
+pub unmark_spec : {M : Type 1} → statement M
+unmark_spec =
     tie.close
     (tie.spec (λ c κs. search rules) (λ c. search rules) (λ c. search rules) (λ c κs. search rules) (λ c. search rules)
     (λ c. search rules) (λ c. search rules) returns)

@@ -14,13 +14,13 @@ use Rattle.draft.specs.Marks.{marked, is_here}
 use Rattle.draft.proofs.columns.is_here.Statement.{statement}
 use Rattle.draft.proofs.columns.is_here.Tie as tie
 
-abbrev invariant-loop : tie.invariant-loop
+abbrev invariant-loop : tie.invariant-loop-c
 invariant-loop words net c₀ c = (c ≤ 512) × (any_of (λ k. marked words k net.0) (up_to c) ≡ false)
 
-abbrev decreases-loop : tie.decreases-loop
+abbrev decreases-loop : tie.decreases-loop-c
 decreases-loop words net c₀ c = 512 - c
 
-loop-holds : tie.Need-loop-init invariant-loop decreases-loop
+loop-holds : tie.Need-loop-c-init invariant-loop decreases-loop
 unfolding any_of from
 loop-holds c = (omega arith, refl)
 
@@ -39,25 +39,25 @@ module _ (words : List ℕ) (n c : ℕ) where
   unfolding is_here
   none all before = sym (rw all at before)
 
-is-marked-requires : tie.Need-is-marked-requires invariant-loop decreases-loop
+is-marked-requires : tie.Need-is_marked-requires invariant-loop decreases-loop
 is-marked-requires c κs =
     let start = c.before.before.before in (start.requires.0, (start.requires.1, (omega arith, omega arith)))
 
-returns : tie.Need-returns invariant-loop decreases-loop
+returns : tie.Need-returns-then-is_marked invariant-loop decreases-loop
 returns c =
-    let l = c.before.before.before.loop in
-    found _ _ l.c (omega arith) (sym c.before.is-marked.ensures ∙ c.if1.true)
+    let l = c.before.before.before.loop-c in
+    found _ _ l.c (omega arith) (sym c.before.is_marked.ensures ∙ c.if-is_marked.true)
 
-loop-again : tie.Need-loop-preserved invariant-loop decreases-loop
+loop-again : tie.Need-loop-c-preserved invariant-loop decreases-loop
 loop-again c =
-    let l = c.before.before.before.loop in
-    (omega arith, none_yet _ _ l.c l.invariant.1 (sym c.before.is-marked.ensures ∙ c.if1.false))
+    let l = c.before.before.before.loop-c in
+    (omega arith, none_yet _ _ l.c l.invariant.1 (sym c.before.is_marked.ensures ∙ c.if-is_marked.false))
 
-returns-2 : tie.Need-returns-2 invariant-loop decreases-loop
-returns-2 c = let l = c.before.loop in none _ _ l.c (omega arith) l.invariant.1
+returns-2 : tie.Need-returns invariant-loop decreases-loop
+returns-2 c = let l = c.before.loop-c in none _ _ l.c (omega arith) l.invariant.1
 
-pub is-here-spec : {M : Type 1} → statement M
-is-here-spec =
+pub is_here_spec : {M : Type 1} → statement M
+is_here_spec =
     tie.close
     (tie.spec invariant-loop decreases-loop loop-holds (λ c. search rules) (λ c. omega arith) is-marked-requires returns
     (λ c. omega arith) loop-again returns-2)

@@ -11,5 +11,5 @@ use Rattle.draft.proofs.word.mark_at.Tie as tie
 returns : tie.Need-returns
 returns c = shl_exact 1 c.args.k 64 (lit< tt) (omega arith) ∙ one-mul _
 
-pub mark-at-spec : {M : Type 1} → statement M
-mark-at-spec = tie.close (tie.spec (λ c. search rules) returns)
+pub mark_at_spec : {M : Type 1} → statement M
+mark_at_spec = tie.close (tie.spec (λ c. search rules) returns)

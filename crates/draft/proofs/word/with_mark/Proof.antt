@@ -8,7 +8,7 @@ use Rattle.draft.proofs.word.with_mark.Tie as tie
 
 returns : tie.Need-returns
 unfolding with_mark
-returns c = ap (bit_or c.before.args.word) c.mark-at.ensures
+returns c = ap (bit_or c.before.args.word) c.mark_at.ensures
 
-pub with-mark-spec : {M : Type 1} → statement M
-with-mark-spec = tie.close (tie.spec (λ c κs. search rules) returns)
+pub with_mark_spec : {M : Type 1} → statement M
+with_mark_spec = tie.close (tie.spec (λ c κs. search rules) returns)

@@ -11,7 +11,7 @@ returns : tie.Need-returns
 unfolding without_mark
 returns c =
     let word = c.before.args.word in
-    ap (λ (m : ℕ). bit_xor word (bit_and word m)) c.mark-at.ensures
+    ap (λ (m : ℕ). bit_xor word (bit_and word m)) c.mark_at.ensures
 
-pub without-mark-spec : {M : Type 1} → statement M
-without-mark-spec = tie.close (tie.spec (λ c κs. search rules) returns)
+pub without_mark_spec : {M : Type 1} → statement M
+without_mark_spec = tie.close (tie.spec (λ c κs. search rules) returns)

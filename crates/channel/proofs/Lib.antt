@@ -1,0 +1,17 @@
+pub mod Laws
+pub mod EscapeLaws
+pub mod SpanLaws
+pub mod ParkedLaws
+pub mod SameLaws
+pub mod PathLaws
+pub mod ChainLaws
+pub mod DensityLaws
+pub mod SpanningLaws
+pub mod StepsLaws
+pub mod BoundLaws
+pub mod NoteLaws
+pub mod ShownLaws
+pub mod TurnLaws
+pub mod RemoveLaws
+pub mod OnceLaws
+pub mod ToldLaws

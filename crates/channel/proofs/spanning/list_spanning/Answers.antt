@@ -1,0 +1,82 @@
+use Rattle.std.proofs.Common.{ℕ, ◌+◌, ◌≤◌, ◌<◌, ◌≡◌, length, get_or, arith, ◌∙◌, ap₂, lt-ltb, le-ltb}
+use Rattle.lists.specs.Lists.{up_to, at}
+use Rattle.lists.specs.Places.{length_from, place-from, at_place}
+use Rattle.lists.specs.Collects.{collected-none, collected-few, collected-takes, collected-skips}
+use Rattle.lists.specs.Collects.{collected-all}
+use Rattle.channel.specs.Channel.{rows}
+use Rattle.channel.proofs.SpanningLaws.{spans_to, highest-of, spanning-numbers}
+use Rattle.channel.proofs.spanning.list_spanning.Goals as goal
+use Rattle.channel.proofs.spanning.list_spanning.Goals.{In-loop-n}
+
+-- there is a place for each number up to it
+room_for : (h k : ℕ) → h ≤ 511 → k ≡ 512 → length (up_to h) ≤ k
+room_for h k l e = omega (arith, length_from 1 h)
+
+-- the number that a turn looks at is the next one, and one of the tables; no more are counted than were looked at
+record Turn (h n count : ℕ) : Type 0 where
+  low : n + 1 < 512
+  free : count < 512
+  ahead : n < length (up_to h)
+  number : get_or (up_to h) n 0 ≡ n + 1
+
+ahead_of : (h n : ℕ) → n < h → n < length (up_to h)
+ahead_of h n l = omega (arith, length_from 1 h)
+
+turn-of : (h n count : ℕ) → n < h → h ≤ 511 → count ≤ n → Turn h n count
+unfolding at
+turn-of h n count l most k =
+    record {
+      low = omega arith;
+      free = omega arith;
+      ahead = ahead_of h n l;
+      number = at_place (up_to h) n (place-from 1 h n (omega arith)) ∙ omega arith;
+    }
+
+all_of : (h n : ℕ) → h ≤ n → length (up_to h) ≤ n
+all_of h n l = omega (arith, length_from 1 h)
+
+turn : (c : In-loop-n) → Turn c.highest_number-highest.result c.loop-n.n c.loop-n.count
+turn c =
+    let h = c.highest_number-highest.result in
+    turn-of h c.loop-n.n c.loop-n.count c.loop-n-test.true
+    (highest-of (rows c.args.top.now c.args.bot.now) c.requires.0.escapes _ _ c.highest_number-upper.ensures
+    c.highest_number-highest.ensures).low
+    (collected-few _ _ _ _ _ _ c.loop-n.invariant (ahead_of h c.loop-n.n c.loop-n-test.true))
+
+pub loop-n-init : goal.loop-n-init
+loop-n-init c = collected-none _ _ _
+
+pub bounds-first-n : goal.bounds-first-n
+bounds-first-n c = (turn (goal.at.bounds-first-n c).In-loop-n).low
+
+pub bounds-last-n : goal.bounds-last-n
+bounds-last-n c = (turn (goal.at.bounds-last-n c).In-loop-n).low
+
+pub bounds-items-count : goal.bounds-items-count
+bounds-items-count c =
+    let f = (turn (goal.at.bounds-items-count c).In-loop-n).free in
+    let l = c.loop-n.auto.items in
+    let k = c.requires.3 in
+    omega arith
+
+pub loop-n-preserved-then-first-n : goal.loop-n-preserved-then-first-n
+loop-n-preserved-then-first-n c =
+    let k = turn (goal.at.loop-n-preserved-then-first-n c).In-loop-n in
+    let high = highest-of (rows c.args.top.now c.args.bot.now) c.requires.0.escapes _ _ c.highest_number-upper.ensures
+    c.highest_number-highest.ensures in
+    rw k.number at (collected-takes _ _ _ _ _ _ c.loop-n.invariant k.ahead (room_for _ _ high.low c.requires.3)
+    (rw k.number (lt-ltb _ _ c.if-first-n.true)))
+
+pub loop-n-preserved : goal.loop-n-preserved
+loop-n-preserved c =
+    let k = turn (goal.at.loop-n-preserved c).In-loop-n in
+    collected-skips _ _ _ _ _ _ c.loop-n.invariant k.ahead (rw k.number (le-ltb _ _ c.if-first-n.false))
+
+pub returns : goal.returns
+returns c =
+    let p = c.requires in
+    let ch = rows c.args.top.now c.args.bot.now in
+    let h = c.highest_number-highest.result in
+    let high = highest-of ch p.0.escapes _ _ c.highest_number-upper.ensures c.highest_number-highest.ensures in
+    let e = ap₂ (λ first last. spans_to first last h) p.1 p.2 ∙ spanning-numbers ch p.0.escapes high in
+    rw e at (collected-all _ _ _ _ _ _ (all_of h _ c.loop-n-test.false) c.loop-n.invariant)
