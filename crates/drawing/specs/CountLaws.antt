@@ -12,7 +12,7 @@ use Rattle.lists.specs.Places.{length_from}
 use Rattle.lists.specs.Eaches.{length-each-most, count-both-ways, at_most_two}
 use Rattle.channel.specs.Channel.{Channel, width, is_net, stands, has_pin, pin_columns, nets, has_span}
 use Rattle.channel.specs.Answers.{Escapes}
-use Rattle.channel.specs.SpanLaws.{nets→, nets-rising}
+use Rattle.channel.proofs.SpanLaws.{nets→, nets-rising}
 use Rattle.channel.specs.CountLaws.{nets-few}
 use Rattle.leftedge.specs.Items.{Place, track_of}
 use Rattle.drawing.specs.Draw.{draw_column, draw_span, draw_straight, draw_net, draw_nets, draw}

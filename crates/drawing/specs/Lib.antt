@@ -2,10 +2,4 @@ pub mod Draw
 pub mod Prefixes
 pub mod Putting
 pub mod Code
-pub mod Owner
-pub mod Points
-pub mod OwnerLaws
-pub mod Reached
-pub mod GoodLaws
 pub mod CountLaws
-pub mod CodeLaws

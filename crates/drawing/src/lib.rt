@@ -1,4 +1,6 @@
 // The pieces of a filled channel, straight into a board file.
+#![tactic(auto)]
+
 ghost use Rattle.std.specs.Prelude.{◌≡◌, ◌+◌, ◌*◌, ◌≤◌, ◌<◌, [], ◌∷◌, cond, length, eqb};
 ghost use Rattle.grid.specs.Pieces.{row};
 ghost use Rattle.channel.specs.Channel.{rows, stands};

@@ -3,7 +3,7 @@ use Rattle.std.specs.Prelude.{ℕ, T}
 use Rattle.std.proofs.Common.{subst}
 use mathlib.Core.List.{Memᴰ}
 use Rattle.grid.specs.Pieces.{Layout}
-use Rattle.grid.specs.TouchLaws.{on-grid→boxed, touches→, →touches, touches-turned}
+use Rattle.grid.proofs.TouchLaws.{on-grid→boxed, touches→, →touches, touches-turned}
 use Rattle.channel.specs.Channel.{Channel}
 use Rattle.wiring.specs.PinLaws.{pin-touches→, →pin-touches}
 use Rattle.wiring.specs.Layouts.{Element, pin, copper, Present, Touching, AllOnGrid}

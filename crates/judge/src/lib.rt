@@ -1,4 +1,6 @@
 // The judge of a board file against the rows of a channel.
+#![tactic(auto)]
+
 ghost use Rattle.std.specs.Prelude.{◌≡◌};
 ghost use Rattle.boardfile.specs.Open.{file_layout};
 ghost use Rattle.judge.specs.Finding.{finding};
@@ -16,7 +18,7 @@ use grid::COLUMN_SLOTS;
 use refusal::{Refusal, SCRATCH_TRAY};
 
 // What is wrong with a board, each with its place.
-#[derive(Drop)]
+#[derive(Clone, Copy)]
 pub enum Fault {
     // 11: the lowest pin position joined to an earlier pin of another net
     Short(usize),

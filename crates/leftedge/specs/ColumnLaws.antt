@@ -12,11 +12,11 @@ use Rattle.lists.specs.Tests.{equal?}
 use Rattle.lists.specs.Counts.{get_or-zeros}
 use Rattle.lists.specs.Arrays.{numbered, numbered-at}
 use Rattle.channel.specs.Channel.{Channel, width, first_column, last_column, is_net, nets, without_parked}
-use Rattle.channel.specs.Laws.{net→pin}
-use Rattle.channel.specs.ParkedLaws.{no-first, no_last}
-use Rattle.channel.specs.SpanLaws.{nets→}
+use Rattle.channel.proofs.Laws.{net→pin}
+use Rattle.channel.proofs.ParkedLaws.{no-first, no_last}
+use Rattle.channel.proofs.SpanLaws.{nets→}
 use Rattle.channel.specs.Spans.{each512, firsts, lasts}
-use Rattle.channel.specs.ShownLaws.{firsts-shown, lasts-shown}
+use Rattle.channel.proofs.ShownLaws.{firsts-shown, lasts-shown}
 use Rattle.leftedge.specs.Items.{Place}
 use Rattle.leftedge.specs.Nets.{record_of, records}
 use Rattle.leftedge.specs.Columns.{CopiedFor, ColumnsDue}

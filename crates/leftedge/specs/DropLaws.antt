@@ -13,9 +13,9 @@ use Rattle.lists.specs.Arrays.{numbered-replicate, numbered-same, set-numbered}
 use Rattle.items.specs.Steps.{is_step}
 use Rattle.channel.specs.Channel.{Channel, width}
 use Rattle.channel.specs.Constraints.{Above, above}
-use Rattle.channel.specs.Laws.{above→, →above}
+use Rattle.channel.proofs.Laws.{above→, →above}
 use Rattle.channel.specs.Spans.{each512}
-use Rattle.channel.specs.StepsLaws.{step-above, above_step}
+use Rattle.channel.proofs.StepsLaws.{step-above, above_step}
 use Rattle.channel.specs.Parked.{NetsOnly}
 use Rattle.leftedge.specs.Ring.{over_wanted, lowest_over}
 

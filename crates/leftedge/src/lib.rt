@@ -1,4 +1,6 @@
 // Filling tracks by the constrained left-edge rule, and the ring that is shown where the fill is stuck.
+#![tactic(auto)]
+
 mod columns;
 mod nets;
 mod ring;
@@ -10,7 +12,7 @@ pub use nets::{count_looks, fill_tracks};
 pub use ring::store_pairs;
 
 // What the caller's table has of one net. A straight net's column stands twice, and its track is 0: it has none.
-#[derive(Drop)]
+#[derive(Clone, Copy)]
 pub struct NetRecord {
     pub number: Net,
     pub first: Column,

@@ -3,13 +3,3 @@ pub mod Answers
 pub mod Promise
 pub mod Code
 pub mod RaiseLaws
-pub mod JoinLaws
-pub mod PartLaws
-pub mod NetLaws
-pub mod DensityLaws
-pub mod FillLaws
-pub mod TangleLaws
-pub mod PanelLaws
-pub mod GroupLaws
-pub mod OverLaws
-pub mod AnswerLaws

@@ -1,5 +1,7 @@
 // Two lists on one panel (02, Req 09): the second list's columns follow the first's, and its net numbers are raised by
 // the first's highest.
+#![tactic(auto)]
+
 mod raising;
 
 ghost use Rattle.std.specs.Prelude.{◌≡◌, ◌≤◌, length};

@@ -2,4 +2,3 @@ pub mod Router
 pub mod Bounds
 pub mod Turned
 pub mod Proved
-pub mod TurnProved

@@ -11,9 +11,9 @@ use Rattle.channel.specs.Density.{density}
 use Rattle.channel.specs.Constraints.{chain, Step, Tangled, Unconstrained}
 use Rattle.channel.specs.Answers.{Escapes}
 use Rattle.channel.specs.CountLaws.{nets-few}
-use Rattle.channel.specs.SpanLaws.{nets→, spanning→}
-use Rattle.channel.specs.ParkedLaws.{parked-no-net, uncounted}
-use Rattle.channel.specs.ShownLaws.{tangled-shown}
+use Rattle.channel.proofs.SpanLaws.{nets→, spanning→}
+use Rattle.channel.proofs.ParkedLaws.{parked-no-net, uncounted}
+use Rattle.channel.proofs.ShownLaws.{tangled-shown}
 use Rattle.wiring.specs.Layouts.{Good, OneTrunkEach}
 use Rattle.wiring.specs.Order.{no-ring}
 use Rattle.wiring.specs.Floor.{density-floor}
@@ -24,12 +24,12 @@ use Rattle.leftedge.specs.Fill.{filled, stuck}
 use Rattle.leftedge.specs.FillEnds.{filled-or-stuck}
 use Rattle.leftedge.specs.Walk.{ring_of, ring_numbers}
 use Rattle.leftedge.specs.Nets.{net_items, fill, record_of, records}
-use Rattle.leftedge.specs.NetFill.{nets-filled, stuck-ring, ring-length, filled-untangled, tracks≤nets, tracks≤density}
+use Rattle.leftedge.proofs.NetFill.{nets-filled, stuck-ring, ring-length, filled-untangled, tracks≤nets, tracks≤density}
 use Rattle.boardfile.specs.Encode.{encode}
 use Rattle.boardfile.specs.Promise.{ReadsBack}
 use Rattle.boardfile.specs.RoundTrip.{read_back, encoded-length}
 use Rattle.drawing.specs.Draw.{draw}
-use Rattle.drawing.specs.GoodLaws.{drawn-good, parked-bare}
+use Rattle.drawing.proofs.GoodLaws.{drawn-good, parked-bare}
 use Rattle.drawing.specs.CountLaws.{drawn-pieces}
 use Rattle.promises.specs.Router.{Refused, NoLayout, Fewest, Req04, Demand3, TraysFit}
 use Rattle.promises.specs.Bounds.{DensityFloor}

@@ -11,10 +11,10 @@ use Rattle.items.specs.Steps.{is_step, Stepped, StepsLinked}
 use Rattle.items.specs.LinkLaws.{steps-stepped}
 use Rattle.channel.specs.Channel.{Channel, highest_net}
 use Rattle.channel.specs.Constraints.{below}
-use Rattle.channel.specs.Laws.{net-positive}
-use Rattle.channel.specs.EscapeLaws.{top-low}
+use Rattle.channel.proofs.Laws.{net-positive}
+use Rattle.channel.proofs.EscapeLaws.{top-low}
 use Rattle.channel.specs.Parked.{NetsOnly}
-use Rattle.channel.specs.StepsLaws.{step-above, steps-drops}
+use Rattle.channel.proofs.StepsLaws.{step-above, steps-drops}
 use Rattle.rings.specs.Search.{numbers, StepsKnown}
 
 -- both nets of a step have such numbers, so the links are the steps of these numbers

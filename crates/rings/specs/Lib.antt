@@ -7,16 +7,8 @@ pub mod NoteLaws
 pub mod SearchLaws
 pub mod SearchTurns
 pub mod WalkLaws
-pub mod HomeLaws
 pub mod TurnLaws
-pub mod LowestLaws
-pub mod ReturnLaws
-pub mod FewestLaws
 pub mod Code
 pub mod NearerLaws
-pub mod HomewardLaws
 pub mod KnownLaws
 pub mod NearestLaws
-pub mod ShownLaws
-pub mod OfNets
-pub mod AnswerLaws

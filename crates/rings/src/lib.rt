@@ -1,4 +1,6 @@
 // The ring with the fewest nets (02, Req 05): the fewest wires to move in a tangled channel.
+#![tactic(auto)]
+
 mod fewest;
 mod search;
 

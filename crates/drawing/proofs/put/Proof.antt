@@ -7,7 +7,7 @@ use Rattle.drawing.specs.Putting.{put_one}
 use Rattle.drawing.proofs.put.Statement.{statement}
 use Rattle.drawing.proofs.put.Tie as tie
 
-put-piece-requires : tie.Need-put-piece-requires
+put-piece-requires : tie.Need-put_piece-requires
 put-piece-requires c κs =
     let r = c.before.before.requires in
     (omega arith, r.small c.before.before.args.piece (Memᴰ.head refl))
@@ -15,7 +15,7 @@ put-piece-requires c κs =
 returns : tie.Need-returns
 returns c =
     let a = c.before.before.before.before.before.args in
-    put_one a.board.now _ a.count a.piece c.before.before.put-piece.ensures
+    put_one a.board.now _ a.count a.piece c.before.before.put_piece.ensures
 
 pub put_spec : {M : Type 1} → statement M
 put_spec =

@@ -4,18 +4,18 @@ use Rattle.judge.specs.Answers.{fault_place}
 use Rattle.judge.proofs.fault_place.Statement.{statement}
 use Rattle.judge.proofs.fault_place.Tie as tie
 
-returns : tie.Need-returns
+returns : tie.Need-returns-in-Short
 unfolding fault_place
 returns c = search rules
 
-returns-2 : tie.Need-returns-2
+returns-2 : tie.Need-returns-in-Open
 unfolding fault_place
 returns-2 c = search rules
 
-returns-3 : tie.Need-returns-3
+returns-3 : tie.Need-returns-in-Floating
 unfolding fault_place
 returns-3 c = search rules
 
-pub fault-place-spec : {M : Type 1} → statement M
-fault-place-spec =
+pub fault_place_spec : {M : Type 1} → statement M
+fault_place_spec =
     tie.close (tie.spec (λ c. search rules) (λ c. search rules) (λ c. search rules) returns returns-2 returns-3)

@@ -12,18 +12,18 @@ returns c =
     let k = c.before.before.before.before.before in
     let f = k.before.before in
     rw (
-      c.pick7.ensures,
-      c.before.pick6.ensures,
-      c.before.before.pick5.ensures,
-      c.before.before.before.pick4.ensures,
-      c.before.before.before.before.pick3.ensures,
-      k.pick2.ensures,
+      c.pick-7.ensures,
+      c.before.pick-6.ensures,
+      c.before.before.pick-5.ensures,
+      c.before.before.before.pick-4.ensures,
+      c.before.before.before.before.pick-3.ensures,
+      k.pick-2.ensures,
       k.before.pick.ensures,
     )
-    (ap picked_box f.fields-of.ensures ∙ sym (box-picked f.before.args.v))
+    (ap picked_box f.fields_of-kind.ensures ∙ sym (box-picked f.before.args.v))
 
-pub cover-of-spec : {M : Type 1} → statement M
-cover-of-spec =
+pub cover_of_spec : {M : Type 1} → statement M
+cover_of_spec =
     tie.close
     (tie.spec (λ c κs. search rules) (λ c κs. search rules) (λ c κs. search rules) (λ c κs. search rules)
     (λ c κs. search rules) (λ c κs. search rules) (λ c κs. search rules) (λ c κs. search rules) returns)

@@ -8,5 +8,5 @@ returns : tie.Need-returns
 unfolding cover_column
 returns c = cc
 
-pub cover-in-column-spec : {M : Type 1} → statement M
-cover-in-column-spec = tie.close (tie.spec (λ c κs. search rules) (λ c κs. search rules) (λ c. search rules) returns)
+pub cover_in_column_spec : {M : Type 1} → statement M
+cover_in_column_spec = tie.close (tie.spec (λ c κs. search rules) (λ c κs. search rules) (λ c. search rules) returns)

@@ -8,5 +8,5 @@ returns : tie.Need-returns
 unfolding cover_track
 returns c = cc
 
-pub cover-on-track-spec : {M : Type 1} → statement M
-cover-on-track-spec = tie.close (tie.spec (λ c κs. search rules) (λ c κs. search rules) (λ c. search rules) returns)
+pub cover_on_track_spec : {M : Type 1} → statement M
+cover_on_track_spec = tie.close (tie.spec (λ c κs. search rules) (λ c κs. search rules) (λ c. search rules) returns)

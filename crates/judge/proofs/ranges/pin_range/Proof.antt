@@ -8,5 +8,5 @@ returns : tie.Need-returns
 unfolding pin_range
 returns c = cc
 
-pub pin-range-spec : {M : Type 1} → statement M
-pin-range-spec = tie.close (tie.spec (λ c. search rules) (λ c κs. search rules) (λ c. search rules) returns)
+pub pin_range_spec : {M : Type 1} → statement M
+pin_range_spec = tie.close (tie.spec (λ c. search rules) (λ c κs. search rules) (λ c. search rules) returns)

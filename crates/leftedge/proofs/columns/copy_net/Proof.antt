@@ -5,8 +5,8 @@ use borrow.Author.Rules.{rules}
 use Rattle.leftedge.proofs.columns.copy_net.Statement.{statement}
 use Rattle.leftedge.proofs.columns.copy_net.Tie as tie
 
-pub copy-net-spec : {M : Type 1} → statement M
-copy-net-spec =
+pub copy_net_spec : {M : Type 1} → statement M
+copy_net_spec =
     tie.close
     (tie.spec (λ c. search rules) (λ c. search rules) (λ c. search rules)
     (λ c. omega (arith, c.before.before.requires.1)) (λ c. search rules) (λ c. search rules)

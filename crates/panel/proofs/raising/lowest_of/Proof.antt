@@ -8,7 +8,7 @@ use Rattle.panel.proofs.raising.lowest_of.Tie as tie
 returns : tie.Need-returns
 returns c =
     let a = c.before.before.before.before.args in
-    c.lowest-over2.ensures ∙ ap (lowest_over a.limit a.bot.now) c.before.lowest-over.ensures
+    c.lowest_over.ensures ∙ ap (lowest_over a.limit a.bot.now) c.before.lowest_over-tops.ensures
 
-pub lowest-of-spec : {M : Type 1} → statement M
-lowest-of-spec = tie.close (tie.spec (λ c. search rules) (λ c κs. search rules) (λ c κs. search rules) returns)
+pub lowest_of_spec : {M : Type 1} → statement M
+lowest_of_spec = tie.close (tie.spec (λ c. search rules) (λ c κs. search rules) (λ c κs. search rules) returns)

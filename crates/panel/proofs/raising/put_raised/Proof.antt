@@ -15,27 +15,27 @@ use Rattle.panel.specs.Joined.{raised}
 use Rattle.panel.proofs.raising.put_raised.Statement.{statement}
 use Rattle.panel.proofs.raising.put_raised.Tie as tie
 
-abbrev invariant-loop : tie.invariant-loop
+abbrev invariant-loop : tie.invariant-loop-i
 invariant-loop row by to₀ at i₀ to i =
     (i ≤ length row) × (to ≡ sets to₀ at (take i (map (raised by) row))) × (length to ≡ length to₀)
 
-abbrev decreases-loop : tie.decreases-loop
+abbrev decreases-loop : tie.decreases-loop-i
 decreases-loop row by to₀ at i₀ to i = length row - i
 
-loop-holds : tie.Need-loop-init invariant-loop decreases-loop
+loop-holds : tie.Need-loop-i-init invariant-loop decreases-loop
 loop-holds c = (omega arith, refl, refl)
 
 raise-requires : tie.Need-raise-requires invariant-loop decreases-loop
 raise-requires c κs =
     let start = c.before.before.before.before.before in
-    (start.requires.0 c.before.before.loop.i (omega arith), start.requires.1)
+    (start.requires.0 c.before.before.loop-i.i (omega arith), start.requires.1)
 
-loop-again : tie.Need-loop-preserved invariant-loop decreases-loop
+loop-again : tie.Need-loop-i-preserved invariant-loop decreases-loop
 loop-again c =
     let start = c.before.before.before.before.before.before in
     let a = start.args in
     let row = map (raised a.by) a.row.now in
-    let loop = c.before.before.before.loop in
+    let loop = c.before.before.before.loop-i in
     let inv = loop.invariant in
     let size = length-map a.row.now (raised a.by) in
     let here = map_at (raised a.by) a.row.now loop.i (omega arith) in
@@ -49,13 +49,13 @@ loop-again c =
 returns : tie.Need-returns invariant-loop decreases-loop
 returns c =
     let a = c.before.before.before.before.args in
-    let inv = c.before.loop.invariant in
+    let inv = c.before.loop-i.invariant in
     let row = map (raised a.by) a.row.now in
-    let end : c.before.loop.i ≡ length row = let l = length-map a.row.now (raised a.by) in omega arith in
+    let end : c.before.loop-i.i ≡ length row = let l = length-map a.row.now (raised a.by) in omega arith in
     inv.1 ∙ ap (sets a.to.now a.at) (ap (λ (k : ℕ). take k row) end ∙ take-length row)
 
-pub put-raised-spec : {M : Type 1} → statement M
-put-raised-spec =
+pub put_raised_spec : {M : Type 1} → statement M
+put_raised_spec =
     tie.close
     (tie.spec invariant-loop decreases-loop loop-holds (λ c. search rules) (λ c. search rules) raise-requires (λ c. omega arith)
     (λ c. search rules) (λ c. omega arith) (λ c. omega arith) (λ c. omega arith) loop-again (λ c. search rules) returns)

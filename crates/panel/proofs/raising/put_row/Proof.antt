@@ -18,9 +18,9 @@ returns c =
     let start = first.before.before.before.before.before in
     let a = start.args in
     let fits = start.requires.3 in
-    second.put-raised2.ensures
+    second.put_raised-2.ensures
     ∙ (ap (λ (l : List ℕ). sets l (length a.first.now) (map (raised a.by) a.second.now))
-    first.put-raised.ensures ∙ two-rows a.by a.to.now a.first.now a.second.now fits)
+    first.put_raised.ensures ∙ two-rows a.by a.to.now a.first.now a.second.now fits)
 
-pub put-row-spec : {M : Type 1} → statement M
-put-row-spec = tie.close (tie.spec (λ c κs. search rules) (λ c κs. search rules) (λ c. search rules) returns)
+pub put_row_spec : {M : Type 1} → statement M
+put_row_spec = tie.close (tie.spec (λ c κs. search rules) (λ c κs. search rules) (λ c. search rules) returns)

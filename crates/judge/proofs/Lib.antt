@@ -1,0 +1,13 @@
+pub mod SearchLaws
+pub mod SameFindingLaws
+pub mod Demand2
+pub mod OnBytes
+pub mod RangeLaws
+pub mod FitLaws
+pub mod EnterSteps
+pub mod PlaceMarks
+pub mod FaultStepsLaws
+pub mod ElementStepsLaws
+pub mod JudgeSteps
+pub mod ScratchLaws
+pub mod ToldLaws

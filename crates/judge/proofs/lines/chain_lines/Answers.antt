@@ -1,0 +1,33 @@
+use native.Mathlib.Omega.{arith}
+use Rattle.judge.proofs.FitLaws.{place-ready}
+use Rattle.classes.specs.ChainSteps.{chained-to-none, push-ready, chained-to-next, chained-to-whole}
+use Rattle.judge.proofs.lines.chain_lines.Goals as goal
+
+pub loop-i-init : goal.loop-i-init
+loop-i-init c =
+    let pre = c.requires in
+    chained-to-none _ _ _ pre.elements.forest pre.blank
+
+pub range_on-r-requires : goal.range_on-r-requires
+range_on-r-requires c =
+    let e = c.requires.elements in
+    let k = e.count in
+    place-ready _ _ _ c.loop-i.i e.judgeable (omega arith)
+
+pub push-requires : goal.push-requires
+push-requires c =
+    let l = c.loop-i in
+    let z = l.invariant.size in
+    push-ready _ _ _ _ _ _ l.invariant (omega arith) (c.requires.lined l.i (omega arith)) _
+    c.range_on-r.ensures
+
+pub loop-i-preserved : goal.loop-i-preserved
+loop-i-preserved c =
+    let l = c.loop-i in
+    let z = l.invariant.size in
+    let push = c.push in
+    chained-to-next _ _ _ _ _ _ l.invariant (omega arith)
+    (c.requires.lined l.i (omega arith)) _ c.range_on-r.ensures _ _ push.ensures.0 push.ensures.1
+
+pub returns : goal.returns
+returns c = let z = c.loop-i.invariant.size in chained-to-whole c.loop-i.invariant (omega arith)

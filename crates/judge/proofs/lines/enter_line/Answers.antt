@@ -1,0 +1,46 @@
+use native.Mathlib.Omega.{arith}
+use mathlib.Core.Path.{refl}
+use Rattle.judge.proofs.EnterSteps.{entering-none, entering-place, entering-ready, entering-next}
+use Rattle.judge.proofs.lines.enter_line.Goals as goal
+
+pub loop-after-init : goal.loop-after-init
+loop-after-init c = entering-none c.requires refl
+
+pub range_on-r-requires : goal.range_on-r-requires
+range_on-r-requires c =
+    entering-place c.requires c.loop-after.invariant (omega arith)
+
+pub enter-requires : goal.enter-requires
+enter-requires c =
+    let some = c.loop-after-test.true in
+    entering-ready c.requires c.loop-after.invariant (omega arith) c.range_on-r.ensures
+
+pub next-after-requires : goal.next-after-requires
+next-after-requires c =
+    let some = c.loop-after-test.true in
+    let range = c.range_on-r in
+    (entering-next c.requires c.loop-after.invariant (omega arith) range.ensures
+    c.enter.ensures refl).inside
+
+pub loop-after-smaller : goal.loop-after-smaller
+loop-after-smaller c =
+    let some = c.loop-after-test.true in
+    let range = c.range_on-r in
+    (entering-next c.requires c.loop-after.invariant (omega arith) range.ensures
+    c.enter.ensures c.next-after.ensures).less
+
+pub loop-after-preserved : goal.loop-after-preserved
+loop-after-preserved c =
+    let some = c.loop-after-test.true in
+    let range = c.range_on-r in
+    (entering-next c.requires c.loop-after.invariant (omega arith) range.ensures
+    c.enter.ensures c.next-after.ensures).entering
+
+pub shape_of-starts : goal.shape_of-starts
+shape_of-starts c = c.loop-after.invariant.size
+
+pub shape_of-forest : goal.shape_of-forest
+shape_of-forest c = c.loop-after.invariant.entered.grown.size
+
+pub returns : goal.returns
+returns c = rw c.loop-after-test.false at c.loop-after.invariant.entered

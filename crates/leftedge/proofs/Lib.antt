@@ -1,0 +1,12 @@
+pub mod ScanLaws
+pub mod FillLaws
+pub mod HalfLaws
+pub mod LookLaws
+pub mod WalkLaws
+pub mod NetLaws
+pub mod NetFill
+pub mod ScanTurns
+pub mod FillTurns
+pub mod NetTurns
+pub mod RingLaws
+pub mod ShownLaws

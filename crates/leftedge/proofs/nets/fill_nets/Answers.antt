@@ -1,0 +1,17 @@
+-- With the steps of the rows linked, the nets are items that the code fills (`nets-begin`).
+use Rattle.leftedge.specs.Nets.{net_items, fill}
+use Rattle.leftedge.proofs.NetTurns.{nets-begin}
+use Rattle.leftedge.proofs.nets.fill_nets.Goals as goal
+
+pub fill_items-requires : goal.fill_items-requires
+fill_items-requires c =
+    record {
+      it = net_items _;
+      begins = nets-begin c.requires.0 c.link_steps.ensures c.link_steps.auto.head c.link_steps.auto.under;
+    }
+
+pub returns : goal.returns
+unfolding fill
+returns c =
+    c.fill_items.ensures (net_items _)
+    (nets-begin c.requires.0 c.link_steps.ensures c.link_steps.auto.head c.link_steps.auto.under)

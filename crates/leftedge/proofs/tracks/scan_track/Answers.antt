@@ -1,0 +1,50 @@
+-- A turn is `takes` or `leaves`, and `all_seen` closes the return.
+use Rattle.std.proofs.Common.{refl, eq-eqb, ne_eqb}
+use Rattle.leftedge.proofs.ScanTurns.{starts, all_seen, in_tables, may-lower, takes, leaves}
+use Rattle.leftedge.proofs.tracks.scan_track.Goals as goal
+use Rattle.leftedge.proofs.tracks.scan_track.Goals.{else-under-n-eq0-via-then-under-n-eq0+else-may_follow}
+use Rattle.leftedge.proofs.tracks.scan_track.Goals.{else-under-n-eq0-via-else-under-n-eq0}
+
+pub loop-i-init : goal.loop-i-init
+loop-i-init c it ps b = starts b _
+
+pub bounds-under-n : goal.bounds-under-n
+bounds-under-n c =
+    (in_tables c.requires.begins (c.loop-i.invariant _ _ c.requires.begins) c.loop-i-test.true).5
+
+pub may_follow-requires : goal.may_follow-requires
+may_follow-requires c =
+    (in_tables c.requires.begins (c.loop-i.invariant _ _ c.requires.begins) c.loop-i-test.true).2
+
+pub bounds-tracks-n : goal.bounds-tracks-n
+bounds-tracks-n c =
+    (in_tables c.requires.begins (c.loop-i.invariant _ _ c.requires.begins) c.loop-i-test.true).6
+
+pub bounds-last-n : goal.bounds-last-n
+bounds-last-n c =
+    (in_tables c.requires.begins (c.loop-i.invariant _ _ c.requires.begins) c.loop-i-test.true).3
+
+pub bounds-head-n : goal.bounds-head-n
+bounds-head-n c =
+    (in_tables c.requires.begins (c.loop-i.invariant _ _ c.requires.begins) c.loop-i-test.true).4
+
+pub lower_above-requires : goal.lower_above-requires
+lower_above-requires c =
+    may-lower c.requires.begins (c.loop-i.invariant _ _ c.requires.begins) c.loop-i-test.true
+
+pub loop-i-preserved-then-may_follow : goal.loop-i-preserved-then-may_follow
+loop-i-preserved-then-may_follow c it ps b =
+    takes b (c.loop-i.invariant it ps b) c.loop-i-test.true
+    (rw (eq-eqb _ _ c.if-under-n-eq0.true, ← c.may_follow.ensures) c.if-may_follow.true) _ c.lower_above.ensures _
+    c.net_of-net.ensures
+
+pub loop-i-preserved : goal.loop-i-preserved
+loop-i-preserved c it ps b =
+    leaves b (c.loop-i.invariant it ps b) c.loop-i-test.true (elim c.else-under-n-eq0.branch [
+      | else-under-n-eq0-via-then-under-n-eq0+else-may_follow w ↦
+          rw (eq-eqb _ _ w.if-under-n-eq0.true, ← w.may_follow.ensures) w.if-may_follow.false
+      | else-under-n-eq0-via-else-under-n-eq0 w ↦ rw (ne_eqb _ _ w.if-under-n-eq0.false)
+    ])
+
+pub returns : goal.returns
+returns c it ps b = all_seen b (c.loop-i.invariant it ps b) c.loop-i-test.false (refl, refl)

@@ -1,0 +1,10 @@
+pub mod JoinLaws
+pub mod PartLaws
+pub mod NetLaws
+pub mod DensityLaws
+pub mod FillLaws
+pub mod TangleLaws
+pub mod PanelLaws
+pub mod GroupLaws
+pub mod OverLaws
+pub mod AnswerLaws
