@@ -1,1 +1,2 @@
 // The bench examples of the scope paper, computed from the definitions. See specs/.
+#![tactic(auto)]

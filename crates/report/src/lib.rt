@@ -1,4 +1,6 @@
 // The lines that the programs write, put into a lent buffer.
+#![tactic(auto)]
+
 ghost use Rattle.std.specs.Prelude.{◌≡◌, [], ◌∷◌, ◌+◌, ◌*◌, ◌≤◌, length, take};
 ghost use Rattle.lists.specs.Lists.{each};
 ghost use Rattle.refusal.specs.Trays.{row_tray, record_tray};
@@ -92,7 +94,7 @@ pub fn put_row(out: &mut [u8], at: usize, word: &[u8], row: &[u32]) -> usize
 }
 
 // The figures of a listing.
-#[derive(Drop)]
+#[derive(Clone, Copy)]
 pub struct Figures {
     pub width: u32,
     pub tracks: u32,

@@ -1,13 +1,8 @@
 pub mod Route
 pub mod Contract
-pub mod ContractLaws
 pub mod Code
 pub mod CodeLaws
 pub mod Tables
-pub mod TableLaws
-pub mod Outcomes
-pub mod LentLaws
 pub mod ToldLaws
 pub mod Progress
 pub mod ProgressLaws
-pub mod ColumnLaws

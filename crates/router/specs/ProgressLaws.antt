@@ -8,10 +8,10 @@ use Rattle.refusal.specs.ToldLaws.{answered-told}
 use Rattle.channel.specs.declared.RowsAnswer.TheVariants as checking
 use Rattle.channel.specs.Channel.{Channel, spanning}
 use Rattle.channel.specs.Answers.{rows_refusal, rows_answer}
-use Rattle.channel.specs.BoundLaws.{accepted→none, refused→some}
-use Rattle.channel.specs.SpanLaws.{spanning-small}
+use Rattle.channel.proofs.BoundLaws.{accepted→none, refused→some}
+use Rattle.channel.proofs.SpanLaws.{spanning-small}
 use Rattle.leftedge.specs.Looks.{ceiling}
-use Rattle.leftedge.specs.LookLaws.{ceiling-rises}
+use Rattle.leftedge.proofs.LookLaws.{ceiling-rises}
 use Rattle.leftedge.specs.Nets.{looks}
 use Rattle.router.specs.declared.progress.LooksAnswer.TheVariants as answer
 use Rattle.router.specs.Progress.{looks_answer, ceiling_answer, looks_told}

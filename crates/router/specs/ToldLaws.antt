@@ -12,7 +12,7 @@ use Rattle.refusal.specs.Trays.{Tray, short_tray}
 use Rattle.grid.specs.Pieces.{Layout}
 use Rattle.channel.specs.Channel.{Channel}
 use Rattle.channel.specs.Answers.{Escapes, rows_refusal}
-use Rattle.channel.specs.EscapeLaws.{accepted-exactly}
+use Rattle.channel.proofs.EscapeLaws.{accepted-exactly}
 use Rattle.leftedge.specs.Fill.{Filling, filled, stuck}
 use Rattle.leftedge.specs.Nets.{fill}
 use Rattle.drawing.specs.Draw.{draw}

@@ -1,4 +1,6 @@
 // The router of a channel handed over as rows.
+#![tactic(auto)]
+
 mod progress;
 
 ghost use Rattle.std.specs.Prelude.{◌≡◌, ◌≤◌, ◌<◌, length, take};
@@ -19,7 +21,7 @@ pub use progress::{LooksAnswer, ceiling, looks};
 use refusal::{BOARD_TRAY, RECORD_TRAY, RING_TRAY, Refusal};
 
 // What the router answers.
-#[derive(Drop)]
+#[derive(Clone, Copy)]
 pub enum RouteAnswer {
     // a board of so many tracks and pieces
     Routed { tracks: u32, pieces: u32 },

@@ -1,6 +1,8 @@
 // The entries that a C program calls. Each answers one number: 0 in the upper 32 bits and the value in the lower, or
 // the number of a refusal or fault in the upper and its place in the lower; a place over 4,294,967,295 is shown as
 // that. screen/channel.h documents them for C.
+#![tactic(auto)]
+
 ghost use Rattle.std.specs.Prelude.{◌≡◌, ◌≤◌};
 ghost use Rattle.refusal.specs.Refusals.{told_at, told_refusal};
 ghost use Rattle.channel.specs.Channel.{rows};
