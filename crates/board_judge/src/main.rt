@@ -1,19 +1,20 @@
 // Judges the file `board` against the pin list in the file `pins`. A file that cannot be opened counts as empty, and
 // `board` is read only where `pins` passes.
-use libc::STDOUT_FILENO;
+#![tactic(auto)]
+
+use std::io;
 
 // Room for one byte more than the limit tells an input that is over it.
-fn main() {
+fn main(rt: HostRuntime) -> io::Result<()> {
     let mut pins = [0u8; 65537];
     let mut board = [0u8; 65537];
     let mut out = [0u8; 65536];
-    let length = files::read_file(b"pins", &mut pins);
+    let length = files::read_file(&rt, "pins", &mut pins)?;
     if !programs::pins_pass(&pins[..length]) {
         let count = programs::judge_output(&pins[..length], b"", &mut out);
-        io::write_all(STDOUT_FILENO, &out[..count]);
-        return;
+        return rt.write_all(&out[..count]);
     }
-    let size = files::read_file(b"board", &mut board);
+    let size = files::read_file(&rt, "board", &mut board)?;
     let count = programs::judge_output(&pins[..length], &board[..size], &mut out);
-    io::write_all(STDOUT_FILENO, &out[..count]);
+    rt.write_all(&out[..count])
 }

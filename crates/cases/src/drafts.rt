@@ -1,12 +1,13 @@
 // A draft, lent as so many of the words of a buffer that hold the mark everywhere before, and calls on it one after the
 // other.
-ghost use Rattle.std.specs.Prelude.{◌≡◌, ◌+◌, ◌-◌, ◌*◌, ◌/◌, ◌≤◌, length, leb};
+ghost use Rattle.std.specs.Prelude.{◌≡◌, IfOk, ◌+◌, ◌-◌, ◌*◌, ◌/◌, ◌≤◌, length, leb};
 ghost use Rattle.cases.specs.Cases.{is_kept, number_at, calls_whole, draft_whole};
 
 use crate::{output, rows};
 use draft::{CountAnswer, DraftAnswer};
 use grid::{Column, Net};
 use refusal::DRAFT_TRAY;
+use std::io;
 
 // The words of the buffer, and the bytes of a call: its kind and three numbers, two bytes each.
 const ROOM: usize = DRAFT_TRAY + 8;
@@ -15,83 +16,91 @@ const CALL_BYTES: usize = 8;
 
 const MARK: u64 = output::MARK as u64;
 
-fn put_changed(name: &[u8], answer: DraftAnswer) {
-    output::put_word(name);
+fn put_changed(rt: &impl Print, name: &[u8], answer: DraftAnswer) -> io::Result<()> {
+    output::put_word(rt, name)?;
     match answer {
-        DraftAnswer::Done => output::put_word(b" 0\n"),
-        DraftAnswer::Refused(refusal) => output::put_refusal(refusal),
+        DraftAnswer::Done => output::put_word(rt, b" 0\n"),
+        DraftAnswer::Refused(refusal) => output::put_refusal(rt, refusal),
     }
 }
 
-fn put_counted(name: &[u8], answer: CountAnswer) {
-    output::put_word(name);
+fn put_counted(rt: &impl Print, name: &[u8], answer: CountAnswer) -> io::Result<()> {
+    output::put_word(rt, name)?;
     match answer {
         CountAnswer::Count(k) => {
-            output::put_field(0);
-            output::put_number(k);
-            output::put_word(b"\n");
+            output::put_field(rt, 0)?;
+            output::put_number(rt, k)?;
+            output::put_word(rt, b"\n")
         }
-        CountAnswer::Refused(refusal) => output::put_refusal(refusal),
+        CountAnswer::Refused(refusal) => output::put_refusal(rt, refusal),
     }
 }
 
 // Makes the call of a kind up to 4 and writes its line.
-fn make_call(words: &mut [u64], kind: u32, n: u32, first: u32, last: u32) {
+fn make_call(
+    rt: &impl Print,
+    words: &mut [u64],
+    kind: u32,
+    n: u32,
+    first: u32,
+    last: u32,
+) -> io::Result<()> {
     match kind {
-        0 => put_changed(b"CLEAR", draft::clear(words)),
+        0 => put_changed(rt, b"CLEAR", draft::clear(words)),
         1 => put_changed(
+            rt,
             b"ARRIVE",
             draft::arrive(words, Net(n), Column(first), Column(last)),
         ),
-        2 => put_changed(b"LEAVE", draft::leave(words, Net(n))),
-        3 => put_counted(b"COUNT", draft::count(words, Column(n))),
-        _ => put_counted(b"GREATEST", draft::greatest(words)),
+        2 => put_changed(rt, b"LEAVE", draft::leave(words, Net(n))),
+        3 => put_counted(rt, b"COUNT", draft::count(words, Column(n))),
+        _ => put_counted(rt, b"GREATEST", draft::greatest(words)),
     }
 }
 
 // The same of the call that stands at byte `at`; answers false where there is no such call.
-fn make_call_at(words: &mut [u64], bytes: &[u8], at: usize) -> bool
+fn make_call_at(rt: &impl Print, words: &mut [u64], bytes: &[u8], at: usize) -> io::Result<bool>
     requires { at + 8 ≤ length bytes.now }
-    ensures { result ≡ leb (number_at bytes.now at) 4 }
+    ensures { IfOk result (λ whole. whole ≡ leb (number_at bytes.now at) 4) }
 {
     let kind = rows::number_at(bytes, at);
     if 4 < kind {
-        return false;
+        return Ok(false);
     }
     let n = rows::number_at(bytes, at + 2);
     let first = rows::number_at(bytes, at + 4);
     let last = rows::number_at(bytes, at + 6);
-    make_call(words, kind, n, first, last);
-    true
+    make_call(rt, words, kind, n, first, last)?;
+    Ok(true)
 }
 
 // Makes all calls that stand from byte 2 on; answers false at one that is none.
-fn make_calls(words: &mut [u64], bytes: &[u8], count: usize) -> bool
+fn make_calls(rt: &impl Print, words: &mut [u64], bytes: &[u8], count: usize) -> io::Result<bool>
     requires { 2 + 8 * count ≤ length bytes.now }
-    ensures { result ≡ calls_whole bytes.now count }
+    ensures { IfOk result (λ whole. whole ≡ calls_whole bytes.now count) }
 {
     let mut i: usize = 0;
     while i < count {
-        if !make_call_at(words, bytes, 2 + CALL_BYTES * i) {
-            return false;
+        if !make_call_at(rt, words, bytes, 2 + CALL_BYTES * i)? {
+            return Ok(false);
         }
         i += 1;
     }
-    true
+    Ok(true)
 }
 
 // Those of the words of a draft that are not 0, each behind its place.
-fn put_words(words: &[u64]) {
-    output::put_word(b"WORDS");
+fn put_words(rt: &impl Print, words: &[u64]) -> io::Result<()> {
+    output::put_word(rt, b"WORDS")?;
     let mut i: usize = 0;
     while i < words.len() {
         if words[i] != 0 {
-            output::put_field(i as u64);
-            output::put_field(words[i]);
+            output::put_field(rt, i as u64)?;
+            output::put_field(rt, words[i])?;
         }
         i += 1;
     }
-    output::put_word(b"\n");
+    output::put_word(rt, b"\n")
 }
 
 // Whether every word is the mark.
@@ -109,47 +118,52 @@ fn is_kept(words: &[u64]) -> bool
 }
 
 // Writes the first of the words, so many, and whether the others were kept.
-fn put_parts(words: &[u64], used: usize)
+fn put_parts(rt: &impl Print, words: &[u64], used: usize) -> io::Result<()>
     requires { used ≤ length words.now }
 {
-    put_words(&words[..used]);
-    output::put_kept_word(is_kept(&words[used..]));
+    put_words(rt, &words[..used])?;
+    output::put_kept_word(rt, is_kept(&words[used..]))
 }
 
 // The same where so many of the words were lent: if they are too few for a draft, all have to be kept.
-fn put_left(words: &[u64], size: usize)
+fn put_left(rt: &impl Print, words: &[u64], size: usize) -> io::Result<()>
     requires { length words.now ≡ 4104 }
 {
     if size < DRAFT_TRAY {
-        put_parts(words, 0);
+        put_parts(rt, words, 0)
     } else {
-        put_parts(words, DRAFT_TRAY);
+        put_parts(rt, words, DRAFT_TRAY)
     }
 }
 
 // Makes the calls on so many of the words, and writes what is left.
-fn answer_sized(words: &mut [u64], bytes: &[u8], size: usize) -> bool
+fn answer_sized(rt: &impl Print, words: &mut [u64], bytes: &[u8], size: usize) -> io::Result<bool>
     requires { (length words.old ≡ 4104) × (2 ≤ length bytes.now) × (size ≤ 4104) }
-    ensures { result ≡ calls_whole bytes.now ((length bytes.now - 2) / 8) }
+    ensures { IfOk result (λ whole. whole ≡ calls_whole bytes.now ((length bytes.now - 2) / 8)) }
 {
-    let whole = make_calls(&mut words[..size], bytes, (bytes.len() - 2) / CALL_BYTES);
+    let whole = make_calls(
+        rt,
+        &mut words[..size],
+        bytes,
+        (bytes.len() - 2) / CALL_BYTES,
+    )?;
     if whole {
-        put_left(words, size);
+        put_left(rt, words, size)?;
     }
-    whole
+    Ok(whole)
 }
 
 // A number of words, and calls: the line of each; then the words of the draft, and whether the others were kept.
-pub fn answer_draft(bytes: &[u8]) -> bool
-    ensures { result ≡ draft_whole bytes.now }
+pub fn answer_draft(rt: &impl Print, bytes: &[u8]) -> io::Result<bool>
+    ensures { IfOk result (λ whole. whole ≡ draft_whole bytes.now) }
 {
     if bytes.len() < 2 {
-        return false;
+        return Ok(false);
     }
     let size = rows::number_at(bytes, 0) as usize;
     if ROOM < size {
-        return false;
+        return Ok(false);
     }
     let mut words = [MARK; ROOM];
-    answer_sized(&mut words, bytes, size)
+    answer_sized(rt, &mut words, bytes, size)
 }

@@ -1,6 +1,8 @@
 // Answers cases that stand one after the other on standard input, so that the lines can be compared with those of a
 // program in another language. A case is a byte for the kind of question, two bytes, most significant first, for a
 // length, and so many bytes. A case that lacks bytes, or is of no kind, is cut, and ends the answers.
+#![tactic(auto)]
+
 mod boards;
 mod channels;
 mod drafts;
@@ -9,64 +11,63 @@ mod panels;
 mod rows;
 mod texts;
 
-use libc::STDIN_FILENO;
+use std::io::{self, Read};
 
 // Writes the lines of a case, or answers false where it is of no kind or its bytes do not make a question.
-fn answer(kind: u8, bytes: &[u8]) -> bool {
+fn answer(rt: &impl Print, kind: u8, bytes: &[u8]) -> io::Result<bool> {
     match kind {
-        0 => boards::answer_open(bytes),
-        1 => boards::answer_piece(bytes),
-        2 => boards::answer_blank(bytes),
-        3 => texts::answer_read(bytes),
-        4 => channels::answer_check(bytes),
-        5 => channels::answer_bounds(bytes),
-        6 => channels::answer_fill(bytes),
-        7 => channels::answer_judge(bytes),
-        8 => channels::answer_looks(bytes),
-        9 => channels::answer_own(bytes),
-        10 => channels::answer_fewest(bytes),
-        11 => channels::answer_join(bytes),
-        12 => drafts::answer_draft(bytes),
-        _ => false,
+        0 => boards::answer_open(rt, bytes),
+        1 => boards::answer_piece(rt, bytes),
+        2 => boards::answer_blank(rt, bytes),
+        3 => texts::answer_read(rt, bytes),
+        4 => channels::answer_check(rt, bytes),
+        5 => channels::answer_bounds(rt, bytes),
+        6 => channels::answer_fill(rt, bytes),
+        7 => channels::answer_judge(rt, bytes),
+        8 => channels::answer_looks(rt, bytes),
+        9 => channels::answer_own(rt, bytes),
+        10 => channels::answer_fewest(rt, bytes),
+        11 => channels::answer_join(rt, bytes),
+        12 => drafts::answer_draft(rt, bytes),
+        _ => Ok(false),
     }
 }
 
 // Reads and answers the next case; answers whether to go on.
-fn answer_next(bytes: &mut [u8]) -> bool {
+fn answer_next(rt: &impl Print, input: &mut impl Read, bytes: &mut [u8]) -> io::Result<bool> {
     let mut head = [0u8; 3];
-    let got = io::read_full(STDIN_FILENO, &mut head);
+    let got = files::read_full(input, &mut head)?;
     if got == 0 {
-        return false;
+        return Ok(false);
     }
     let size = output::pair(head[1], head[2]);
     if got < 3 {
-        output::put_word(b"CUT\n");
-        return false;
+        output::put_word(rt, b"CUT\n")?;
+        return Ok(false);
     }
     if bytes.len() < size {
-        output::put_word(b"CUT\n");
-        return false;
+        output::put_word(rt, b"CUT\n")?;
+        return Ok(false);
     }
-    let read = io::read_full(STDIN_FILENO, &mut bytes[..size]);
+    let read = files::read_full(input, &mut bytes[..size])?;
     if read < size {
-        output::put_word(b"CUT\n");
-        return false;
+        output::put_word(rt, b"CUT\n")?;
+        return Ok(false);
     }
-    let whole = answer(head[0], &bytes[..size]);
+    let whole = answer(rt, head[0], &bytes[..size])?;
     if !whole {
-        output::put_word(b"CUT\n");
+        output::put_word(rt, b"CUT\n")?;
     }
-    whole
+    Ok(whole)
 }
 
-// A proved loop has to end, so this one counts its turns down, from a number that no run uses up.
-fn main() {
-    let mut bytes = io::large_buffer();
-    let mut turns = u64::MAX;
-    while turns > 0 {
-        if !answer_next(&mut bytes) {
-            return;
+// A proved loop has to end, so this one counts its turns, up to a number that no run reaches.
+fn main(rt: HostRuntime) -> io::Result<()> {
+    let mut bytes = [0u8; 65536];
+    for _ in 0..u64::MAX {
+        if !answer_next(&rt, &mut rt.stdin(), &mut bytes)? {
+            break;
         }
-        turns -= 1;
     }
+    Ok(())
 }

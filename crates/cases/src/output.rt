@@ -2,44 +2,44 @@
 ghost use Rattle.std.specs.Prelude.{◌≡◌, ◌<◌};
 ghost use Rattle.cases.specs.Cases.{is_kept, pair_of};
 
-use libc::STDOUT_FILENO;
 use refusal::Refusal;
+use std::io;
 
-pub fn put_word(word: &[u8]) {
-    io::write_all(STDOUT_FILENO, word);
+pub fn put_word(rt: &impl Print, word: &[u8]) -> io::Result<()> {
+    rt.write_all(word)
 }
 
 // A space and a number.
-pub fn put_field(n: u64) {
-    io::write_all(STDOUT_FILENO, b" ");
-    io::print_decimal(STDOUT_FILENO, n);
+pub fn put_field(rt: &impl Print, n: u64) -> io::Result<()> {
+    rt.write_all(b" ")?;
+    rt.print(n)
 }
 
-pub fn put_number(n: u32) {
-    put_field(n as u64);
+pub fn put_number(rt: &impl Print, n: u32) -> io::Result<()> {
+    put_field(rt, n as u64)
 }
 
 // The number of a refusal or fault and its place, and the line's end.
-pub fn put_numbered(number: u32, place: usize) {
-    put_field(number as u64);
-    put_field(place as u64);
-    put_word(b"\n");
+pub fn put_numbered(rt: &impl Print, number: u32, place: usize) -> io::Result<()> {
+    put_field(rt, number as u64)?;
+    put_field(rt, place as u64)?;
+    put_word(rt, b"\n")
 }
 
-pub fn put_refusal(r: Refusal) {
-    put_numbered(refusal::number_of(r), refusal::place_of(r));
+pub fn put_refusal(rt: &impl Print, r: Refusal) -> io::Result<()> {
+    put_numbered(rt, refusal::number_of(r), refusal::place_of(r))
 }
 
 // The first `count` numbers of a row, each behind a space, and the line's end.
-pub fn put_row(row: &[u32], count: usize) {
+pub fn put_row(rt: &impl Print, row: &[u32], count: usize) -> io::Result<()> {
     let mut i: usize = 0;
     while i < row.len() {
         if i < count {
-            put_number(row[i]);
+            put_number(rt, row[i])?;
         }
         i += 1;
     }
-    put_word(b"\n");
+    put_word(rt, b"\n")
 }
 
 // What buffers hold everywhere before a question.
@@ -59,11 +59,11 @@ pub fn is_kept(row: &[u32], from: usize) -> bool
     true
 }
 
-pub fn put_kept_word(kept: bool) {
+pub fn put_kept_word(rt: &impl Print, kept: bool) -> io::Result<()> {
     if kept {
-        put_word(b"KEPT\n");
+        put_word(rt, b"KEPT\n")
     } else {
-        put_word(b"LOST\n");
+        put_word(rt, b"LOST\n")
     }
 }
 

@@ -1,34 +1,40 @@
 // Pin lists, read into rows that hold the mark everywhere before.
-ghost use Rattle.std.specs.Prelude.{◌≡◌, true};
+ghost use Rattle.std.specs.Prelude.{◌≡◌, IfOk, true};
 
 use crate::output;
 use pinlist::ReadAnswer;
 use refusal::ROW_TRAY;
+use std::io;
 
 // Writes the width and the rows' fronts; the rest of both rows must still hold the mark.
-pub fn put_rows(top: &[u32; ROW_TRAY], bot: &[u32; ROW_TRAY], w: usize) {
-    output::put_field(0);
-    output::put_field(w as u64);
-    output::put_word(b"\nTOP");
-    output::put_row(top, w);
-    output::put_word(b"BOT");
-    output::put_row(bot, w);
-    output::put_kept_word(output::is_kept(top, w) && output::is_kept(bot, w));
+pub fn put_rows(
+    rt: &impl Print,
+    top: &[u32; ROW_TRAY],
+    bot: &[u32; ROW_TRAY],
+    w: usize,
+) -> io::Result<()> {
+    output::put_field(rt, 0)?;
+    output::put_field(rt, w as u64)?;
+    output::put_word(rt, b"\nTOP")?;
+    output::put_row(rt, top, w)?;
+    output::put_word(rt, b"BOT")?;
+    output::put_row(rt, bot, w)?;
+    output::put_kept_word(rt, output::is_kept(top, w) && output::is_kept(bot, w))
 }
 
 // Any text makes a question.
-pub fn answer_read(text: &[u8]) -> bool
-    ensures { result ≡ true }
+pub fn answer_read(rt: &impl Print, text: &[u8]) -> io::Result<bool>
+    ensures { IfOk result (λ whole. whole ≡ true) }
 {
     let mut top = [output::MARK; ROW_TRAY];
     let mut bot = [output::MARK; ROW_TRAY];
-    output::put_word(b"READ");
+    output::put_word(rt, b"READ")?;
     match pinlist::read(text, &mut top, &mut bot) {
-        ReadAnswer::Width(w) => put_rows(&top, &bot, w),
+        ReadAnswer::Width(w) => put_rows(rt, &top, &bot, w)?,
         ReadAnswer::Refused(refusal) => {
-            output::put_refusal(refusal);
-            output::put_kept_word(output::is_kept(&top, 0) && output::is_kept(&bot, 0));
+            output::put_refusal(rt, refusal)?;
+            output::put_kept_word(rt, output::is_kept(&top, 0) && output::is_kept(&bot, 0))?;
         }
     }
-    true
+    Ok(true)
 }

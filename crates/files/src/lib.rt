@@ -1,16 +1,37 @@
-// Reading a file by its name, for the programs that take files.
+// Reading as far as there is room, for the programs.
+#![tactic(auto)]
+
+ghost use Rattle.std.specs.Prelude.{◌-◌, ◌<◌, IfOk, length, take};
+ghost use Rattle.std.specs.Io.KnownBytes.{Consumes, IsAtEnd};
 ghost use Rattle.io.specs.Counts.{IsPrefixLen};
 
-// Reads a file as far as there is room, and answers how many bytes there are. One that cannot be opened counts as
-// empty.
-pub fn read_file(path: &[u8], bytes: &mut [u8]) -> usize
-    ensures { IsPrefixLen result bytes.new }
+use std::fs;
+use std::io::{self, Read};
+use std::rt::Files;
+
+// Reads to the end, or as far as there is room, and answers how many bytes there are.
+pub fn read_full<R: Read>(reader: &mut R, bytes: &mut [u8]) -> io::Result<usize>
+    ensures prefix_len { IfOk result (λ n. IsPrefixLen n bytes.new) }
+    ensures read { IfOk result (λ n. Consumes (R.remaining reader.old) (R.remaining reader.new) (take n bytes.new)) }
+    ensures whole { IfOk result (λ n. n < length bytes.new → IsAtEnd (R.remaining reader.new)) }
 {
-    let fd = os::open_read(path);
-    if fd < 0 {
-        return 0;
+    let mut done = 0;
+    while done < bytes.len() {
+        let n = reader.read(&mut bytes[done..])?;
+        if n == 0 {
+            break;
+        }
+        done += n;
     }
-    let size = io::read_full(fd, bytes);
-    libc::close(fd);
-    size
+    Ok(done)
+}
+
+// Reads a file as `read_full` does. One that cannot be opened counts as empty.
+pub fn read_file<F: Files>(rt: &F, path: &str, bytes: &mut [u8]) -> io::Result<usize>
+    ensures { IfOk result (λ n. IsPrefixLen n bytes.new) }
+{
+    let Ok(mut file) = fs::open(rt, path) else {
+        return Ok(0);
+    };
+    read_full(&mut file, bytes)
 }

@@ -1,11 +1,13 @@
 // Reads a pin list on standard input and writes its listing. One byte more than the limit is read, to see that there is
 // more.
-use libc::{STDIN_FILENO, STDOUT_FILENO};
+#![tactic(auto)]
 
-fn main() {
+use std::io;
+
+fn main(rt: HostRuntime) -> io::Result<()> {
     let mut text = [0u8; 65537];
-    let size = io::read_full(STDIN_FILENO, &mut text);
+    let size = files::read_full(&mut rt.stdin(), &mut text)?;
     let mut out = [0u8; 65536];
     let count = programs::listing_output(&text[..size], &mut out);
-    io::write_all(STDOUT_FILENO, &out[..count]);
+    rt.write_all(&out[..count])
 }

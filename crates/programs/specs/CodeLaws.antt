@@ -9,7 +9,7 @@ use Rattle.std.proofs.Math.ListN.{length, length-take}
 use Rattle.io.specs.Counts.{IsPrefixLen}
 use Rattle.lists.specs.Overlays.{overlay-front}
 use Rattle.refusal.specs.declared.Refusal.{Refusal}
-use Rattle.refusal.specs.Refusals.{told_at, Told, number_of, place_of, refuse_if, ◌or_else◌, answered, filled_unless}
+use Rattle.refusal.specs.Refusals.{told_at, Told, number_of, place_of, refuse_if, answered, filled_unless}
 use Rattle.refusal.specs.ChainLaws.{or_else_none, answered-none, answered-some}
 use Rattle.refusal.specs.TrayLaws.{refusal-numbered}
 use Rattle.refusal.specs.Trays.{row_tray, record_tray}
@@ -18,17 +18,17 @@ use Rattle.channel.specs.Channel.{Channel, width, rows}
 use Rattle.channel.specs.Density.{density}
 use Rattle.channel.specs.Constraints.{chain}
 use Rattle.channel.specs.Answers.{Escapes, rows_refusal, bounds_answer}
-use Rattle.channel.specs.EscapeLaws.{accepted-exactly}
+use Rattle.channel.proofs.EscapeLaws.{accepted-exactly}
 use Rattle.pinlist.specs.declared.ReadAnswer.{ReadAnswer}
 use Rattle.pinlist.specs.declared.ReadAnswer.TheVariants as read
 use Rattle.pinlist.specs.Answers.{garbled_refusal, text_channel, text_refusal, read_answer, top_after, bot_after}
 use Rattle.pinlist.specs.Reader.{read_text}
 use Rattle.pinlist.specs.Code.{ReadDone}
-use Rattle.pinlist.specs.ReadLaws.{long-rows}
+use Rattle.pinlist.proofs.ReadLaws.{long-rows}
 use Rattle.judge.specs.declared.Fault.{Fault}
 use Rattle.judge.specs.declared.JudgeAnswer.TheVariants as judging
 use Rattle.judge.specs.Answers.{fault_number, fault_place, judge_told}
-use Rattle.judge.specs.OnBytes.{fault-numbered}
+use Rattle.judge.proofs.OnBytes.{fault-numbered}
 use Rattle.blanks.specs.declared.BlankAnswer.TheVariants as blank
 use Rattle.blanks.specs.Stock.{stock, smallest_for, no_blank, blank_answer}
 use Rattle.text.specs.Lines.{line, Put}

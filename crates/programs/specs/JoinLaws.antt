@@ -16,7 +16,7 @@ use Rattle.panel.specs.declared.JoinAnswer.TheVariants.{Width, Refused}
 use Rattle.panel.specs.Joined.{joined}
 use Rattle.panel.specs.Answers.{panel_refusal, join_answer}
 use Rattle.panel.specs.Code.{LongRows, JoinDone}
-use Rattle.panel.specs.AnswerLaws.{width-none, refused-some, passed-refusal, width-told}
+use Rattle.panel.proofs.AnswerLaws.{width-none, refused-some, passed-refusal, width-told}
 use Rattle.report.specs.Lines.{refusal_line}
 use Rattle.programs.specs.Programs.{pin_list, panel_lines}
 

@@ -10,8 +10,8 @@ use Rattle.pinlist.specs.Reader.{rows, read_text}
 use Rattle.pinlist.specs.Answers.{text_channel, text_refusal}
 use Rattle.panel.specs.Joined.{joined, Fits}
 use Rattle.panel.specs.Answers.{panel_refusal}
-use Rattle.panel.specs.PanelLaws.{both-escapes}
-use Rattle.panel.specs.AnswerLaws.{fits-silent}
+use Rattle.panel.proofs.PanelLaws.{both-escapes}
+use Rattle.panel.proofs.AnswerLaws.{fits-silent}
 use Rattle.report.specs.Lines.{refused_line, refusal_line}
 use Rattle.programs.specs.Programs.{input_limit, over_limit, within_limit, of_pin_list, pin_list, panel_lines}
 use Rattle.programs.specs.Programs.{panel_output}

@@ -13,10 +13,10 @@ use Rattle.lists.specs.Ends.{member-at}
 use Rattle.refusal.specs.Refusals.{◌or_else◌}
 use Rattle.channel.specs.Channel.{Channel, highest_net}
 use Rattle.channel.specs.Answers.{Escapes}
-use Rattle.channel.specs.EscapeLaws.{accepted-exactly, top-low, bot-low}
+use Rattle.channel.proofs.EscapeLaws.{accepted-exactly, top-low, bot-low}
 use Rattle.pinlist.specs.Form.{space, feed, Numbers, one, more, Form}
 use Rattle.pinlist.specs.Reader.{rows, read_text}
-use Rattle.pinlist.specs.ReaderLaws.{read-exactly}
+use Rattle.pinlist.proofs.ReaderLaws.{read-exactly}
 use Rattle.pinlist.specs.Answers.{garbled_refusal, channel_of, text_channel, text_refusal}
 use Rattle.text.specs.Lines.{field, line_of}
 use Rattle.programs.specs.Programs.{input_limit, pin_list}

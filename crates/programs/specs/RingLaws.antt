@@ -19,8 +19,8 @@ use Rattle.rings.specs.declared.RingAnswer.TheVariants.{Pairs, NoRing, Refused}
 use Rattle.rings.specs.Fewest.{fewest, fewest_ring}
 use Rattle.rings.specs.Answers.{pairs_answer}
 use Rattle.rings.specs.Code.{FewestDone}
-use Rattle.rings.specs.FewestLaws.{fewest-length, fewest-few}
-use Rattle.rings.specs.AnswerLaws.{pairs-answered, filled}
+use Rattle.rings.proofs.FewestLaws.{fewest-length, fewest-few}
+use Rattle.rings.proofs.AnswerLaws.{pairs-answered, filled}
 use Rattle.report.specs.Lines.{none_line, ring_lines}
 use Rattle.report.specs.Code.{ring_text}
 use Rattle.report.specs.CodeLaws.{ring-text}

@@ -30,10 +30,10 @@ use Rattle.promises.specs.Proved.{trays-fit}
 use Rattle.router.specs.declared.Routing.{Routing}
 use Rattle.router.specs.declared.RouteAnswer.TheVariants as route
 use Rattle.router.specs.Route.{ring_shown, tangled, layout_drawn, records_made, route_trays, route_refusal, board_after}
-use Rattle.router.specs.ContractLaws.{only-tangled, stuck-answer, filled-answer, stuck-ring, filled-board}
+use Rattle.router.proofs.ContractLaws.{only-tangled, stuck-answer, filled-answer, stuck-ring, filled-board}
 use Rattle.router.specs.Code.{records_unless, RowsDone}
-use Rattle.router.specs.CodeLaws.{room}
-use Rattle.router.specs.LentLaws.{rows-front}
+use Rattle.router.proofs.CodeLawsLaws.{room}
+use Rattle.router.proofs.LentLaws.{rows-front}
 use Rattle.text.specs.Lines.{Put}
 use Rattle.report.specs.Lines.{refusal_line, ring_lines}
 use Rattle.report.specs.Code.{listing_text}

@@ -1,4 +1,6 @@
 // What the programs write, of the bytes that they read. A program itself only reads and writes.
+#![tactic(auto)]
+
 ghost use Rattle.std.specs.Prelude.{◌≡◌, ◌≤◌, length, take};
 ghost use Rattle.io.specs.Counts.{IsPrefixLen};
 ghost use Rattle.refusal.specs.Refusals.{place_of};

@@ -1,0 +1,25 @@
+-- The router puts the board file into `out` itself (`routed`); where it refuses it has left `out` as it was, and the
+-- lines of a tangled channel are written there (`unrouted`).
+use Rattle.std.proofs.Common.{arith}
+use Rattle.text.specs.PutLaws.{put_same}
+use Rattle.programs.specs.Programs.{board_bytes}
+use Rattle.programs.specs.RouteLaws.{unrouted, routed}
+use Rattle.programs.proofs.board_channel.Goals as goal
+
+pub put_unrouted-requires : goal.put_unrouted-requires
+put_unrouted-requires c =
+    let told =
+    unrouted _ c.requires.0 (omega arith) (omega (arith, c.requires.1)) c.route_rows-routing.ensures c.in-Refused.is in
+    (told.few, omega arith, omega (arith, c.requires.1))
+
+pub returns-in-Refused-clause-put : goal.returns-in-Refused-clause-put
+returns-in-Refused-clause-put c =
+    let told =
+    unrouted _ c.requires.0 (omega arith) (omega (arith, c.requires.1)) c.route_rows-routing.ensures c.in-Refused.is in
+    put_same (rw told.kept at c.put_unrouted.ensures.put) (told.output board_bytes)
+
+pub returns-in-Routed : goal.returns-in-Routed
+returns-in-Routed c =
+    let told =
+    routed _ c.requires.0 (omega arith) (omega (arith, c.requires.1)) c.route_rows-routing.ensures c.in-Routed.is in
+    record { put = told.put; upper_bound = omega (arith, told.few-pieces) }
