@@ -34,8 +34,7 @@ def ready(names):
         with locked():
             old = stale(files)  # another use may have built them meanwhile
             if old:
-                missing = [name for name in old if altered(files[name])]
-                prover.check(old, missing, announce=any(name in missing or recorded(files[name]) for name in old))
+                prover.programs(old)
                 record(old, files)
 
 

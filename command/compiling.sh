@@ -22,7 +22,7 @@ trap 'exit 2' HUP INT TERM
 need_library() {
     [ -f "$library" ] && return
     echo "$builder: proving and building the static library, once (this takes some minutes)" >&2
-    (cd "$root" && rt staticlib screen_api) >&2
+    (cd "$root" && python3 -B -m command.built library) >&2
     [ -f "$library" ] || fail "$library could not be built"
 }
 

@@ -8,9 +8,10 @@ PARTS = ("src", "specs", "proofs")
 
 
 def dependencies(text):
-    """The lines of crates.txt: for each crate the names that it knows, those of the kit among them."""
+    """The lines of crates.txt: for each crate the names that it knows, those of the kit among them. Behind a crate's own
+    name more may stand: `screen_api staticlib: lists`."""
     lines = (line.split("#", 1)[0].strip() for line in text.splitlines())
-    return {name.strip(): known.split() for name, _, known in (line.partition(":") for line in lines if line)}
+    return {name.split()[0]: known.split() for name, _, known in (line.partition(":") for line in lines if line)}
 
 
 def needed(names, known):

@@ -1,5 +1,7 @@
 """Calls the Rattle kit's `rt` to prove and build, with one line a crate for the user and the whole log in a file."""
+import os
 import re
+import shutil
 import subprocess
 import time
 
@@ -7,8 +9,11 @@ from command import digest, places
 from command.failure import Failure, reason
 from command.standard import say
 
-DONE = re.compile(r"rt: (\S+) (proved|NOT PROVED)(.*)")
-UNCHANGED = "(unchanged"
+# what `rt` prints of each crate that it proves: a line that names it, and one with the verdict
+CRATE = re.compile(r"crate (\S+): modules ")
+VERDICT = re.compile(r"logic=(proved|not-proved)\b")
+# what `rt run` prints once a program is proved and linked
+RUNS = "rt: running out/{};"
 
 
 def kit_needed():
@@ -17,18 +22,31 @@ def kit_needed():
     return next(line.removeprefix("kit ") for line in lines if line.startswith("kit "))
 
 
-def check(names, missing, announce):
-    """Proves and builds programs. `rt` holds a crate for done whose stamp is there: a missing program's goes first.
-    Where much is to be done it is announced; where all may be unchanged only what is proved anew is told."""
-    for name in missing:
-        (places.TARGET / "stamp" / name).unlink(missing_ok=True)
-    follow(["rt", "check", *names], len(crates_of(names)), places.TARGET / "log" / "build_programs.txt", announce)
+def programs(names):
+    """Proves and builds programs, and puts each in its place. No word of `rt` only links one: `rt run` runs it too, here
+    on no input and unheard, and what comes of that tells nothing."""
+    build("run", names, "build_programs.txt")
+    for name in names:
+        take(places.ROOT / "crates" / name / "out" / name, places.PROGRAMS / name)
 
 
 def static_library(name):
-    """Proves and builds the static library."""
-    follow(["rt", "staticlib", name], len(crates_of([name])), places.TARGET / "log" / "build_library.txt",
-           announce=True)
+    """Proves and builds the static library, and puts it in its place."""
+    build("lib", [name], "build_library.txt")
+    take(places.ROOT / "crates" / name / "out" / places.LIBRARY.name, places.LIBRARY)
+
+
+def take(made, place):
+    """Puts what `rt` made in its place whole: the gate empties the folders of the crates."""
+    new = place.with_name(f".{place.name}.{os.getpid()}")
+    try:
+        place.parent.mkdir(parents=True, exist_ok=True)
+        shutil.copy(made, new)
+        os.replace(new, place)
+    except OSError as error:
+        raise Failure(f"{places.shown(made)} cannot be put at {places.shown(place)}: {reason(error)}") from error
+    finally:
+        new.unlink(missing_ok=True)
 
 
 def crates_of(names):
@@ -43,38 +61,58 @@ def warn_of_another_kit():
         say(f"the kit at hand is '{found}'; these sources were proved with '{kit_needed()}'")
 
 
-def follow(command, count, log, announce):
-    """Runs the kit, tells of each crate as it is proved, and keeps all that it prints in the log."""
-    if announce:
-        say(f"building from the sources, which may take some minutes; the log is {places.shown(log)}")
+def build(word, names, log_name):
+    """Has the kit build each crate in its folder, tells of what is proved, and keeps all that it prints in the log."""
+    log = places.TARGET / "log" / log_name
+    say(f"building from the sources, which may take some minutes; the log is {places.shown(log)}")
     try:
         warn_of_another_kit()
         log.parent.mkdir(parents=True, exist_ok=True)
-        with open(log, "w", encoding="utf-8") as kept, \
-                subprocess.Popen(command, cwd=places.ROOT, text=True, errors="replace", stdin=subprocess.DEVNULL,
-                                 stdout=subprocess.PIPE, stderr=subprocess.STDOUT) as running:
-            try:
-                tell(running.stdout, kept, count)
-            except BaseException:  # a stopped command does not wait for the kit
-                running.terminate()
-                raise
+        with open(log, "w", encoding="utf-8") as kept:
+            told = Told(kept, len(crates_of(names)))
+            for name in names:
+                follow(word, name, told, log)
     except FileNotFoundError as error:
         raise Failure(f"{error.filename} is not there: the Rattle kit is needed to build ({kit_needed()})") from error
     except OSError as error:
         raise Failure(f"cannot build: {reason(error)}") from error
-    if running.returncode != 0:
-        raise Failure(f"{' '.join(command)} failed with status {running.returncode}; the log is "
+
+
+def follow(word, name, told, log):
+    """Runs the kit in one crate's folder. The status of `rt run` is the program's own, once that runs."""
+    runs = word == "run"
+    with subprocess.Popen(["rt", word], cwd=places.ROOT / "crates" / name, text=True, errors="replace",
+                          stdin=subprocess.DEVNULL, stdout=subprocess.DEVNULL if runs else subprocess.PIPE,
+                          stderr=subprocess.PIPE if runs else subprocess.STDOUT) as running:
+        try:
+            is_run = told.all(running.stderr if runs else running.stdout, RUNS.format(name))
+        except BaseException:  # a stopped command does not wait for the kit
+            running.terminate()
+            raise
+    if not is_run if runs else running.returncode != 0:
+        raise Failure(f"rt {word} in crates/{name} failed with status {running.returncode}; the log is "
                       f"{places.shown(log)}")
 
 
-def tell(lines, kept, count):
-    """A line for each crate that had to be proved; nothing of those that have not changed."""
-    done, began = 0, time.monotonic()
-    for line in lines:
-        kept.write(line)
-        match = DONE.match(line)
-        if match is not None:
-            done += 1
-            if UNCHANGED not in match.group(3):
-                took = time.monotonic() - began
-                say(f"{match.group(1)} {match.group(2).lower()}, {done} of {count} ({took:.0f} s)")
+class Told:
+    """A line for each crate that had to be proved; the kit is silent of those that have not changed."""
+
+    def __init__(self, kept, count):
+        self.kept, self.count, self.done = kept, count, 0
+        self.began, self.crate = time.monotonic(), None
+
+    def all(self, lines, sought):
+        """Tells of a run of the kit; answers whether a line began as is sought."""
+        found = False
+        for line in lines:
+            self.kept.write(line)
+            found = found or line.startswith(sought)
+            named, verdict = CRATE.match(line), VERDICT.match(line)
+            if named is not None:
+                self.crate = named.group(1)
+            elif verdict is not None and self.crate is not None:
+                self.done += 1
+                took = time.monotonic() - self.began
+                say(f"{self.crate} {verdict.group(1).replace('-', ' ')}, {self.done} of at most {self.count} ({took:.0f} s)")
+                self.crate = None
+        return found

@@ -1,27 +1,25 @@
 """What is run is what the sources say: changed sources are built again, and nothing else is."""
 import os
 import shutil
-import subprocess
 from concurrent.futures import ThreadPoolExecutor
 from pathlib import Path
 
 from command.tests.workshop import LISTED, PROGRAMS, ROOT, Workshop, copy_command, write_program
 
-# Stands in for the kit: notes its words, tells of each crate as the kit does, and copies the programs into place.
+# Stands in for the kit: notes its words and the crate that it is called in, tells of each crate as the kit does, and
+# copies the program into that crate's `out`; its status is that of the program, which it would run.
 KIT = """
 if [ "$1" = version ]; then echo "$KIT_VERSION"; exit; fi
-echo "$*" >>calls
-echo "rt: lists proved (1 s)"
-if [ -e broken ]; then echo "rt: listing NOT PROVED (exit 1, 2 s)"; exit 1; fi
-shift
-mkdir -p target/bin target/stamp
-for name; do
-    if [ -e target/stamp/$name ] && [ -z "$(find crates crates.txt -newer target/stamp/$name)" ]; then
-        echo "rt: $name proved (unchanged since it was last proved)"
-    else
-        cp "PROGRAMS/$name" target/bin/$name; touch target/stamp/$name; echo "rt: $name proved (3 s)"
-    fi
-done
+name=$(basename "$PWD")
+echo "$* $name" >>../../calls
+exec >&2
+prove() { echo "crate $1: modules loaded=0 checked=40"; echo "logic=$2 functions=1"; }
+prove lists proved
+if [ -e ../../broken ]; then prove $name not-proved; exit 1; fi
+mkdir -p out
+cp "PROGRAMS/$name" out/ && prove $name proved
+echo "rt: running out/$name; to give it other input, run that file yourself"
+exit 3
 """
 CRATES = ("lists:\nother: lists\nlisting: lists io\nboard_writer: lists\nboard_judge: lists other\nring_finder: lists\n"
           "panel_joiner: lists\n")
@@ -65,10 +63,10 @@ class Sources(Workshop):
     def test_the_first_use_builds_and_tells(self):
         words = self.listed()
         self.assertIn("target/log/build_programs.txt", words)
-        for line in ("lists proved, 1 of 2 (", "listing proved, 2 of 2 ("):
+        for line in ("lists proved, 1 of at most 2 (", "listing proved, 2 of at most 2 ("):
             self.assertIn(line, words)
-        self.assertIn("rt: listing proved", (self.tree / "target" / "log" / "build_programs.txt").read_text())
-        self.assertEqual(self.calls(), ["check listing"])
+        self.assertIn("crate listing: ", (self.tree / "target" / "log" / "build_programs.txt").read_text())
+        self.assertEqual(self.calls(), ["run listing"])
 
     def test_no_second_build(self):
         self.listed()
@@ -93,7 +91,7 @@ class Sources(Workshop):
             with self.subTest(name):
                 change()
                 self.listed()
-                self.assertEqual((self.calls(), self.listed(), self.calls()), (["check listing"], "", []))
+                self.assertEqual((self.calls(), self.listed(), self.calls()), (["run listing"], "", []))
 
     def test_what_is_not(self):
         self.listed()
@@ -102,11 +100,31 @@ class Sources(Workshop):
         self.edit("other/src/main.rt", "fn other2")
         self.assertEqual((self.listed(), self.calls()), ("", []))
 
-    def test_a_program_built_by_the_gate_is_taken_quietly(self):
+    def test_a_program_without_a_record_is_not_taken(self):
+        (self.tree / "target" / "bin").mkdir(parents=True)
+        write_program(self.tree / "target" / "bin" / "listing", "echo END 0")
+        self.listed()
+        self.assertEqual(self.calls(), ["run listing"])
+
+    def test_the_gate_may_empty_the_folders_of_the_crates(self):
+        self.listed()
+        self.calls()
+        shutil.rmtree(self.tree / "crates" / "listing" / "out")
+        self.assertEqual((self.listed(), self.calls()), ("", []))
+
+    def test_a_program_that_the_kit_does_not_run(self):
         kit = self.room / "kit" / "rt"
-        subprocess.run([kit, "check", *PROGRAMS], cwd=self.tree, check=True, stdout=subprocess.PIPE)
-        kit.write_text(kit.read_text().replace("lists proved (1", "lists proved (unchanged"))
-        self.assertEqual(self.listed(), "")
+        kit.write_text(kit.read_text().replace("rt: running", "rt: not running").replace("exit 3", "exit 0"))
+        done = self.channel("list", "pins")
+        self.assertEqual((done.status, done.output), (2, b""))
+        self.assertFalse((self.tree / "target" / "bin" / "listing").exists())
+
+    def test_a_kit_that_leaves_no_program(self):
+        kit = self.room / "kit" / "rt"
+        kit.write_text(kit.read_text().replace("cp ", ": "))
+        done = self.channel("list", "pins")
+        self.assertEqual((done.status, done.output), (2, b""))
+        self.assertIn("crates/listing/out/listing cannot be put at target/bin/listing: No such file", done.words)
 
     def test_a_build_that_fails(self):
         self.listed()
@@ -115,7 +133,7 @@ class Sources(Workshop):
         done = self.channel("list", "pins")
         self.assertEqual((done.status, done.output), (2, b""))
         self.assertIn("listing not proved", done.words)
-        self.assertIn("rt check listing failed with status 1; the log is target/log/build_programs.txt", done.words)
+        self.assertIn("rt run in crates/listing failed with status 1; the log is target/log/build_programs.txt", done.words)
 
     def test_no_kit(self):
         tools = self.room / "tools"
@@ -139,10 +157,10 @@ class Sources(Workshop):
 
     def test_two_uses_build_once(self):
         kit = self.room / "kit" / "rt"
-        kit.write_text(kit.read_text().replace('echo "$*" >>calls', 'echo "$*" >>calls; sleep 1'))
+        kit.write_text(kit.read_text().replace(">>../../calls", ">>../../calls; sleep 1"))
         with ThreadPoolExecutor(2) as pool:
             words = sorted(done.result() for done in [pool.submit(self.listed), pool.submit(self.listed)])
-        self.assertEqual(self.calls(), ["check listing"])
+        self.assertEqual(self.calls(), ["run listing"])
         self.assertIn(words[0], ("", "channel: another use of the command is building; waiting for it\n"))
 
     def test_an_installed_command_never_builds(self):

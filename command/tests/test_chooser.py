@@ -19,12 +19,13 @@ WRONG = ((), ("stock",), ("own",), ("stock", "1", "2"), ("none", "1"), ("", "1")
          ("stock", "+1"), ("stock", "-1"), ("stock", " 1"), ("stock", "1 "), ("stock", "01"), ("stock", "1.0"),
          ("stock", "4294967296"), ("stock", "18446744073709551617"), ("stock", "9" * 5000), ("own", "x", "1"),
          ("own", "1", "x"), ("own", "1", "2", ""), ("own", "1", "00"), ("own", "1", "4294967296", "5"))
-# Stands in for the kit: copies the library or the programs into place.
+# Stands in for the kit: copies the library or the program into the `out` of the crate that it is called in.
 KIT = """
+name=$(basename "$PWD")
 case $1 in
 version) echo none ;;
-staticlib) mkdir -p target/staticlib && cp "BUILT/staticlib/libscreen_api.a" target/staticlib/ ;;
-check) shift; mkdir -p target/bin && for name; do cp "BUILT/bin/$name" target/bin/; done ;;
+lib) mkdir -p out && cp "BUILT/staticlib/lib$name.a" out/ ;;
+run) mkdir -p out && cp "BUILT/bin/$name" out/ && echo "rt: running out/$name; as it would" >&2 ;;
 esac
 """
 
@@ -68,7 +69,9 @@ class Build(Workshop):
         shutil.copytree(ROOT / "chooser", self.tree / "chooser")
         (self.tree / "screen").mkdir()
         shutil.copy(ROOT / "screen" / "channel.h", self.tree / "screen")
-        (self.tree / "crates.txt").write_text("".join(f"{name}:\n" for name in ("screen_api", *PROGRAMS)))
+        (self.tree / "crates.txt").write_text("screen_api staticlib:\n" + "".join(f"{name}:\n" for name in PROGRAMS))
+        for name in ("screen_api", *PROGRAMS):
+            (self.tree / "crates" / name).mkdir(parents=True)
         (self.room / "kit").mkdir()
         write_program(self.room / "kit" / "rt", KIT.replace("BUILT", str(ROOT / "target")))
         self.program = self.tree / "target" / "choose"

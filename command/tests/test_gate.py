@@ -73,12 +73,19 @@ class LastLine(unittest.TestCase):
                             ("echo 7 passed, 0 failed; exit 1", "7 passed, 1 failed"),
                             ("echo 5 passed, 2 failed", "5 passed, 2 failed"),
                             ("echo 7 passed, 0 failed; echo; echo more", "0 passed, 1 failed"),
+                            ("echo 'rt: ok; must-fail edits: 5 refused, 2 bad; kept'; echo 7 passed, 0 failed",
+                             "7 passed, 2 failed"),
                             ("exit 0", "0 passed, 1 failed"), ("kill -9 $$", "0 passed, 1 failed")):
             with self.subTest(script):
                 write_program(self.tree / "bin" / "rt", script)
                 status, lines, _ = self.run_test()
                 self.assertEqual((status, lines[-1]), (1, due))
                 self.assertFalse(any("ran" in line.split() for line in lines))
+
+    def test_words_of_bad_edits_that_are_none(self):
+        for line in ("rt: ok; must-fail edits: 5 refused; kept", "lists: a note, 2 bad lines"):
+            write_program(self.tree / "bin" / "rt", f"echo '{line}'; {PASSING}")
+            self.assertEqual(self.run_test()[1][-1], "7 passed, 0 failed")
 
     def test_help_runs_nothing(self):
         write_program(self.tree / "bin" / "rt", "touch ran")
