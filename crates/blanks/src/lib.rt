@@ -12,7 +12,7 @@ use refusal::Refusal;
 use search::first_that_holds;
 
 // What the choice of a blank answers.
-#[derive(Drop)]
+#[derive(Clone, Copy)]
 pub enum BlankAnswer {
     // the tracks that the chosen blank holds
     Blank(u32),

@@ -10,7 +10,7 @@ use boardfile::{OpenAnswer, PieceAnswer};
 use refusal::Refusal;
 
 // A reader: the board's bytes, and how many pieces it answers.
-#[derive(Drop)]
+#[derive(Clone, Copy)]
 pub struct BoardReader<'a> {
     pub board: &'a [u8],
     pub count: usize,

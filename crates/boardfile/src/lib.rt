@@ -12,21 +12,21 @@ use grid::{BRANCH, CONTACT, Column, Piece, Row, TRUNK, Track, WIDEST};
 use refusal::Refusal;
 
 // What opening a board file answers.
-#[derive(Drop)]
+#[derive(Clone, Copy)]
 pub enum OpenAnswer {
     Board { width: u32, tracks: u32, count: u32 },
     Refused(Refusal),
 }
 
 // What the reader answers to the number of a piece.
-#[derive(Drop)]
+#[derive(Clone, Copy)]
 pub enum PieceAnswer {
     Found(Piece),
     Refused(Refusal),
 }
 
 // The fields of the header's word.
-#[derive(Drop)]
+#[derive(Clone, Copy)]
 pub struct Header {
     pub width: u32,
     pub tracks: u32,
@@ -35,7 +35,7 @@ pub struct Header {
 }
 
 // The fields of a piece's word.
-#[derive(Drop)]
+#[derive(Clone, Copy)]
 pub struct Fields {
     pub kind: u32,
     pub line: u32,

@@ -7,7 +7,7 @@ use Rattle.std.proofs.Math.Path.{sym}
 use Rattle.std.proofs.Math.Seq.{drop-cons}
 use borrow.Author.Tests.{eq-eqb, ne_eqb, lt-ltb, le-ltb, le-leb, lt-leb}
 use Rattle.lists.specs.Lists.{all_of, from, overlay}
-use Rattle.lists.specs.Arrays.{length-map-from, get_d_numbered}
+use Rattle.lists.specs.Arrays.{length-map-from, get_or-numbered}
 use Rattle.lists.specs.Overlays.{copied_next, copied-whole}
 use Rattle.cases.specs.Cases.{
   mark,
@@ -59,7 +59,7 @@ module _ (bytes : List ℕ) (at : ℕ) where
         → set row i (number_at bytes (at + 2 * i)) ≡ overlay (take (i + 1) numbers) row₀
     unfolding numbers_at
     numbers-next i h e =
-        let same = get_d_numbered (λ k. number_at bytes (at + 2 * k)) (length row₀) i h in
+        let same = get_or-numbered (λ k. number_at bytes (at + 2 * k)) (length row₀) i h in
         rw (← same) (copied_next numbers row₀ i 0 (omega (arith, size)) (omega (arith, size)) e)
 
     pub numbers-whole : {row : List ℕ} (i : ℕ) → length row₀ ≤ i → row ≡ overlay (take i numbers) row₀ → row ≡ numbers

@@ -1,6 +1,7 @@
 // Answers cases that stand one after the other on standard input, so that the lines can be compared with those of a
 // program in another language. A case is a byte for the kind of question, two bytes, most significant first, for a
-// length, and so many bytes. A case that lacks bytes, or is of no kind, is cut, and ends the answers.
+// length, and so many bytes. A case that lacks bytes, or is of no kind, is cut, and ends the answers. A read or write
+// that fails ends the program with an error.
 #![tactic(auto)]
 
 mod boards;

@@ -12,16 +12,8 @@ use Rattle.lists.specs.Updates.{map_same}
 use Rattle.items.specs.Density.{holding, densest}
 use Rattle.channel.specs.Channel.{Channel, width, first_column, last_column, spanning}
 use Rattle.channel.specs.Density.{Span, spans_over, spans_of, density}
+use Rattle.channel.specs.Nets.{nets_over, Over}
 use Rattle.channel.proofs.SpanLaws.{spanning-rising}
-
--- the nets whose spans hold column c
-unfoldable pub nets_over : Channel → ℕ → List ℕ
-nets_over ch c = keep (λ n. within (first_column ch n) c (last_column ch n)) (spanning ch)
-
-pub record Over (ch : Channel) (c n : ℕ) : Type 0 where
-  pub spans : Memᴰ n (spanning ch)
-  pub begins : first_column ch n ≤ c
-  pub ends : c ≤ last_column ch n
 
 pub over→ : (ch : Channel) (c n : ℕ) → Memᴰ n (nets_over ch c) → Over ch c n
 unfolding nets_over

@@ -13,6 +13,7 @@ use Rattle.lists.specs.Ends.{ends-within, at_suc, at-inside, member-at}
 use Rattle.channel.specs.Channel.{Channel, width, positions, pin_count, is_net, stands, has_pin}
 use Rattle.channel.specs.Channel.{pin_columns, first_column, last_column}
 use Rattle.channel.specs.Constraints.{Above, above, Drop, drops}
+use Rattle.channel.specs.Nets.{PinIn}
 
 -- `is_net` says that the number is not 0 and has more than one pin
 pub net-positive : (ch : Channel) (n : ℕ) → T (is_net ch n) → 0 < n
@@ -73,13 +74,6 @@ above→drop ch a b c h =
     (keep (λ e. above ch a (at ch.bot e) e) (up_to (width ch))))) h.on_bot
     (mathlib.Core.List.Memᴰ.map (λ e. record { column = e; lower = at ch.bot e })
     (kept (λ e. above ch a (at ch.bot e) e) (in-up_to (width ch) c inside.0 inside.1) passes))
-
--- column c holds a pin of net n
-pub record PinIn (ch : Channel) (n c : ℕ) : Type 0 where
-  pub net : T (is_net ch n)
-  pub first : 1 ≤ c
-  pub last : c ≤ width ch
-  pub pin : (at ch.top c ≡ n) ⊎ (at ch.bot c ≡ n)
 
 pub pin-column : (ch : Channel) (n c : ℕ) → Memᴰ c (pin_columns ch n) → PinIn ch n c
 unfolding pin_columns

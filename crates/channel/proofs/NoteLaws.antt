@@ -9,7 +9,7 @@ use Rattle.lists.specs.Tests.{same_test, and_right, and_both, equal?}
 use Rattle.lists.specs.Members.{keep-member, up_to-member}
 use Rattle.lists.specs.Tallies.{keep_same}
 use Rattle.lists.specs.Updates.{keep-next, set_gives}
-use Rattle.lists.specs.Arrays.{get_d_numbered, numbered-same, numbered-replicate, set-numbered}
+use Rattle.lists.specs.Arrays.{get_or-numbered, numbered-same, numbered-replicate, set-numbered}
 use Rattle.channel.specs.Channel.{Channel, width, is_net, stands, has_pin, pin_columns, first_column, last_column}
 use Rattle.channel.specs.Spans.{each512, firsts, lasts, first_noted}
 use Rattle.channel.specs.Parked.{NetsOnly}
@@ -101,7 +101,7 @@ eqb-sym a b =
 noted-numbered : (f : ℕ → ℕ) (m n c : ℕ) → n < m
     → first_noted (map f (from 0 m)) n c ≡ map (λ k. cond (eqb k n) (noted (f k) c) (f k)) (from 0 m)
 unfolding first_noted
-noted-numbered f m n c inside = rw (get_d_numbered f m n inside) (go (eqb (f n) 0) refl)
+noted-numbered f m n c inside = rw (get_or-numbered f m n inside) (go (eqb (f n) 0) refl)
   where
     at_place : (b : Bool) → eqb (f n) 0 ≡ b → (k : ℕ)
         → cond (eqb k n) (cond b c (f k)) (f k) ≡ cond (eqb k n) (noted (f k) c) (f k)

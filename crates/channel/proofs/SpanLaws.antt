@@ -16,14 +16,9 @@ use Rattle.channel.specs.Channel.{last_column, nets, has_span, spanning}
 use Rattle.channel.specs.Density.{Span, spans_of}
 use Rattle.channel.specs.Constraints.{Above}
 use Rattle.channel.specs.Answers.{Escapes}
-use Rattle.channel.proofs.Laws.{net-positive, net-counted, PinIn, PinAmong, Standing, on-top, on-bot, standing}
+use Rattle.channel.specs.Nets.{PinIn, IsNet}
+use Rattle.channel.proofs.Laws.{net-positive, net-counted, PinAmong, Standing, on-top, on-bot, standing}
 use Rattle.channel.proofs.Laws.{top-holds, bot-holds, pin-after-first, pin-before-last}
-
--- a net has a number of 1 to 511 that is routed
-pub record IsNet (ch : Channel) (n : ℕ) : Type 0 where
-  pub is_net : T (is_net ch n)
-  pub positive : 0 < n
-  pub low : n ≤ highest_net
 
 pub nets→ : (ch : Channel) (n : ℕ) → Memᴰ n (nets ch) → IsNet ch n
 unfolding nets

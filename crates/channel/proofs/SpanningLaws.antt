@@ -12,7 +12,7 @@ use Rattle.lists.specs.Ends.{from-rising, keep-rising}
 use Rattle.lists.specs.Greatest.{at≤greatest, greatest≤}
 use Rattle.lists.specs.Pigeonhole.{length-keep}
 use Rattle.lists.specs.Counts.{take-zeros}
-use Rattle.lists.specs.Arrays.{length-map-from, get_d_numbered}
+use Rattle.lists.specs.Arrays.{length-map-from, get_or-numbered}
 use Rattle.lists.specs.Unique.{rising-unique}
 use Rattle.items.specs.Order.{by_number, sorted_by, Sortable}
 use Rattle.items.specs.OrderLaws.{sorted-same}
@@ -24,9 +24,10 @@ use Rattle.channel.specs.Density.{density}
 use Rattle.channel.specs.Answers.{Escapes}
 use Rattle.channel.specs.Spans.{firsts, lasts}
 use Rattle.channel.proofs.EscapeLaws.{top-low, bot-low}
-use Rattle.channel.proofs.Laws.{PinIn, pin-column, net→pin, pin-in-first, pin-in-last}
+use Rattle.channel.proofs.Laws.{pin-column, net→pin, pin-in-first, pin-in-last}
 use Rattle.channel.proofs.SpanLaws.{span-strict, spanning→, →spanning, spanning-rising, pin→net}
 use Rattle.channel.specs.CountLaws.{nets-few}
+use Rattle.channel.specs.Nets.{PinIn}
 use Rattle.channel.proofs.DensityLaws.{density-densest}
 
 -- number n has a span, by tables of first and of last columns
@@ -41,7 +42,7 @@ spans_to first last n = keep (spans_by first last) (up_to n)
 columns : (ch : Channel) (n : ℕ) → n ≤ highest_net
     → (by_number (firsts ch) n ≡ first_column ch n) × (by_number (lasts ch) n ≡ last_column ch n)
 columns ch n l =
-    (get_d_numbered (first_column ch) 512 n (omega arith), get_d_numbered (last_column ch) 512 n (omega arith))
+    (get_or-numbered (first_column ch) 512 n (omega arith), get_or-numbered (last_column ch) 512 n (omega arith))
 
 -- a number with a last column has a pin in some column
 last→pin : (ch : Channel) (n : ℕ) → 0 < last_column ch n → (c : ℕ) × PinIn ch n c

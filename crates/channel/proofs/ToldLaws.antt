@@ -31,7 +31,8 @@ use Rattle.channel.specs.Answers.{
 }
 use Rattle.channel.proofs.SpanLaws.{upper-spans}
 use Rattle.channel.specs.CountLaws.{nets-few}
-use Rattle.channel.proofs.DensityLaws.{nets_over, density-reached}
+use Rattle.channel.specs.Nets.{nets_over}
+use Rattle.channel.proofs.DensityLaws.{density-reached}
 use Rattle.channel.proofs.ChainLaws.{ring-next, deepest, chain-counts, chain-overruns}
 
 module _ (ch : Channel) where

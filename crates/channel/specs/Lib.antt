@@ -1,6 +1,7 @@
 pub mod Channel
 pub mod Density
 pub mod Constraints
+pub mod Nets
 pub mod Answers
 pub mod Spans
 pub mod Rows

@@ -15,14 +15,14 @@ pub use spanning::{highest_number, list_spanning};
 pub use spans::{Spans, find_columns, typed_spans};
 
 // What the check of two rows answers.
-#[derive(Drop)]
+#[derive(Clone, Copy)]
 pub enum RowsAnswer {
     Accepted,
     Refused(Refusal),
 }
 
 // What is answered to a request for bounds alone.
-#[derive(Drop)]
+#[derive(Clone, Copy)]
 pub enum BoundsAnswer {
     Bounds { density: u32, chain: u32 },
     Refused(Refusal),

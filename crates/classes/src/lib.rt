@@ -13,7 +13,7 @@ pub use halves::{high, low, number};
 pub use ranges::{enter, sweep};
 
 // The places of a line that an element covers: the line, 0 for none; the first place, and the first place past it.
-#[derive(Drop)]
+#[derive(Clone, Copy)]
 pub struct Range {
     pub line: u32,
     pub start: u32,

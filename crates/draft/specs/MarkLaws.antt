@@ -12,7 +12,7 @@ use Rattle.std.specs.Int.Bits.{bit_and, or_lt, xor_lt, and_lt}
 use Rattle.std.proofs.Math.Pow.{pow-lt}
 use Rattle.lists.specs.Lists.{within, overlay}
 use Rattle.lists.specs.Tests.{same_test, T→true, →within, and_left, and_right, and_both, eq→T}
-use Rattle.lists.specs.Arrays.{length-map-from, get_d_numbered}
+use Rattle.lists.specs.Arrays.{length-map-from, get_or-numbered}
 use Rattle.lists.specs.Counts.{get_or-zeros}
 use Rattle.lists.specs.Overlays.{length-overlay}
 use Rattle.refusal.specs.Trays.{draft_tray}
@@ -62,7 +62,7 @@ module _ (f : ℕ → ℕ) (n first last : ℕ) (words : List ℕ) where
   pub word-changed : (i : ℕ) → i < length words → get_or (changed f n first last words) i 0
       ≡ cond (is_word_of n first last i) (f (get_or words i 0)) (get_or words i 0)
   unfolding changed
-  word-changed i h = get_d_numbered _ (length words) i h
+  word-changed i h = get_or-numbered _ (length words) i h
 
   -- a mark stands in the word as it was, or as the change made it
   marked-changed : (c m : ℕ) → LongDraft words → InDraft m c → marked (changed f n first last words) c m

@@ -15,14 +15,14 @@ use grid::{Column, HIGHEST_NET, Net, WIDEST};
 use refusal::{DRAFT_TRAY, Refusal};
 
 // What a call that changes the draft answers.
-#[derive(Drop)]
+#[derive(Clone, Copy)]
 pub enum DraftAnswer {
     Done,
     Refused(Refusal),
 }
 
 // What a call that asks for a count answers.
-#[derive(Drop)]
+#[derive(Clone, Copy)]
 pub enum CountAnswer {
     Count(u32),
     Refused(Refusal),

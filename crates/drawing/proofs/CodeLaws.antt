@@ -28,9 +28,10 @@ use Rattle.channel.specs.Channel.{highest_net, stands, has_pin, pin_columns}
 use Rattle.channel.specs.declared.spans.Spans.{Spans}
 use Rattle.channel.specs.Answers.{Escapes}
 use Rattle.channel.specs.Spans.{each512, SpansFound}
-use Rattle.channel.proofs.Laws.{PinIn, pin-column, pin-after-first, pin-before-last, pin-in-first, pin-in-last}
+use Rattle.channel.specs.Nets.{PinIn, IsNet}
+use Rattle.channel.proofs.Laws.{pin-column, pin-after-first, pin-before-last, pin-in-first, pin-in-last}
 use Rattle.channel.proofs.Laws.{net→pin}
-use Rattle.channel.proofs.SpanLaws.{IsNet, nets→, →spanning}
+use Rattle.channel.proofs.SpanLaws.{nets→, →spanning}
 use Rattle.channel.proofs.SpanningLaws.{Highest, net≤highest}
 use Rattle.boardfile.specs.Encode.{word, header, encode}
 use Rattle.boardfile.specs.Code.{SmallWords}

@@ -15,8 +15,9 @@ use Rattle.grid.specs.declared.Piece.TheVariants.{Trunk, Branch, Contact}
 use Rattle.grid.specs.Pieces.{column, track, row}
 use Rattle.channel.specs.Channel.{Channel, width, is_net, nets, has_span, spanning, first_column, last_column, pin_columns}
 use Rattle.channel.specs.Answers.{Escapes}
-use Rattle.channel.proofs.Laws.{PinIn, pin-column, in-pin-columns, pin-in-first, net→pin}
-use Rattle.channel.proofs.SpanLaws.{IsNet, nets→, →nets, spanning→, →spanning, straight-both}
+use Rattle.channel.specs.Nets.{PinIn, IsNet}
+use Rattle.channel.proofs.Laws.{pin-column, in-pin-columns, pin-in-first, net→pin}
+use Rattle.channel.proofs.SpanLaws.{nets→, →nets, spanning→, →spanning, straight-both}
 use Rattle.leftedge.specs.Items.{Place, track_of}
 use Rattle.drawing.specs.Draw.{branch_in, draw_column, draw_span, draw_straight, draw_net, draw}
 

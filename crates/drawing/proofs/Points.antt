@@ -14,7 +14,8 @@ use Rattle.grid.specs.Pieces.{kind_of, trunk_kind, branch_kind, left, right, low
 use Rattle.grid.specs.Touching.{Covers}
 use Rattle.channel.specs.Channel.{Channel, width, spanning, first_column, last_column}
 use Rattle.channel.specs.Answers.{Escapes}
-use Rattle.channel.proofs.Laws.{PinIn, pin-after-first, pin-before-last, pin-in-last}
+use Rattle.channel.specs.Nets.{PinIn}
+use Rattle.channel.proofs.Laws.{pin-after-first, pin-before-last, pin-in-last}
 use Rattle.channel.proofs.SpanLaws.{span-strict, spanning→}
 use Rattle.leftedge.specs.Items.{Place, track_of}
 use Rattle.drawing.specs.Draw.{branch_in}

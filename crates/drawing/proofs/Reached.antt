@@ -15,8 +15,9 @@ use Rattle.grid.specs.Touching.{pin_meets, Touch}
 use Rattle.grid.proofs.TouchLaws.{contact-meets, touch-sym}
 use Rattle.channel.specs.Channel.{Channel, width, is_net, spanning, first_column, last_column}
 use Rattle.channel.specs.Answers.{Escapes}
-use Rattle.channel.proofs.Laws.{net-positive, PinIn, pin-after-first, pin-before-last}
-use Rattle.channel.proofs.SpanLaws.{IsNet, spanning→, →spanning}
+use Rattle.channel.specs.Nets.{PinIn, IsNet}
+use Rattle.channel.proofs.Laws.{net-positive, pin-after-first, pin-before-last}
+use Rattle.channel.proofs.SpanLaws.{spanning→, →spanning}
 use Rattle.wiring.specs.Pins.{Pin, top, bot, column_of, row_of, net_of, IsPin, PinTouch}
 use Rattle.wiring.specs.Layouts.{Element, pin, copper, Present, Touching, Joined, itself, link}
 use Rattle.wiring.specs.Chains.{joined_snoc}

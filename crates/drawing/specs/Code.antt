@@ -7,7 +7,7 @@ use Rattle.grid.specs.declared.Track.{Track}
 use Rattle.grid.specs.Pieces.{column, track, Layout}
 use Rattle.channel.specs.Channel.{Channel, width, spanning, first_column, last_column}
 use Rattle.channel.specs.Answers.{Escapes}
-use Rattle.channel.proofs.SpanLaws.{IsNet}
+use Rattle.channel.specs.Nets.{IsNet}
 use Rattle.boardfile.specs.Encode.{encode}
 use Rattle.drawing.specs.Draw.{draw_nets}
 

@@ -1,7 +1,7 @@
 // Reading as far as there is room, for the programs.
 #![tactic(auto)]
 
-ghost use Rattle.std.specs.Prelude.{◌-◌, ◌<◌, IfOk, length, take};
+ghost use Rattle.std.specs.Prelude.{ℕ, ◌-◌, ◌<◌, ◌≤◌, IfErr, IfOk, length, take};
 ghost use Rattle.std.specs.Io.KnownBytes.{Consumes, IsAtEnd};
 ghost use Rattle.io.specs.Counts.{IsPrefixLen};
 
@@ -9,11 +9,14 @@ use std::fs;
 use std::io::{self, Read};
 use std::rt::Files;
 
-// Reads to the end, or as far as there is room, and answers how many bytes there are.
+// Reads to the end, or as far as there is room, and answers how many bytes there are. A read that fails is the error;
+// what was read before it stands in front.
 pub fn read_full<R: Read>(reader: &mut R, bytes: &mut [u8]) -> io::Result<usize>
     ensures prefix_len { IfOk result (λ n. IsPrefixLen n bytes.new) }
     ensures read { IfOk result (λ n. Consumes (R.remaining reader.old) (R.remaining reader.new) (take n bytes.new)) }
     ensures whole { IfOk result (λ n. n < length bytes.new → IsAtEnd (R.remaining reader.new)) }
+    ensures failed { IfErr result (λ _. (n : ℕ) × (n ≤ length bytes.new)
+        × Consumes (R.remaining reader.old) (R.remaining reader.new) (take n bytes.new)) }
 {
     let mut done = 0;
     while done < bytes.len() {
@@ -26,11 +29,15 @@ pub fn read_full<R: Read>(reader: &mut R, bytes: &mut [u8]) -> io::Result<usize>
     Ok(done)
 }
 
-// Reads a file as `read_full` does. One that cannot be opened counts as empty.
-pub fn read_file<F: Files>(rt: &F, path: &str, bytes: &mut [u8]) -> io::Result<usize>
+// Reads a file as `read_full` does. One that cannot be opened counts as empty; one that opens and cannot be read is the
+// error, and so is a name that is no UTF-8, which std has no call for.
+pub fn read_file<F: Files>(rt: &F, path: &[u8], bytes: &mut [u8]) -> io::Result<usize>
     ensures { IfOk result (λ n. IsPrefixLen n bytes.new) }
 {
-    let Ok(mut file) = fs::open(rt, path) else {
+    let Ok(name) = str::from_utf8(path) else {
+        return Err(io::Error::from(io::ErrorKind::InvalidInput));
+    };
+    let Ok(mut file) = fs::open(rt, name) else {
         return Ok(0);
     };
     read_full(&mut file, bytes)

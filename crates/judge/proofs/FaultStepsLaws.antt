@@ -1,4 +1,4 @@
--- What the functions that find the faults ask and answer, and what each step of their loops leaves.
+-- What each step of the loops that find the faults leaves, and what they have found at their end.
 use Prim.Native.Nat.{ℕ, suc, ◌+◌, ◌-◌, ◌≤◌, ◌<◌}
 use Rattle.std.proofs.Common.{arith, ◌∙◌, subst, eqb→eq}
 use Rattle.std.specs.Prelude.{◌≡◌, refl, Bool, true, false, ◌&&◌, length, get_or, set, T}

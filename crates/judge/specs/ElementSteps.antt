@@ -1,5 +1,4 @@
--- The judging of a board's elements, part by part: each alone, joined on columns and then on tracks, each number its
--- root, and what is found by the roots.
+-- What the judging of a board's elements stands on: rows, file and room that nothing refuses, and a number for each.
 use Prim.Native.Nat.{ℕ, zero, suc, ◌+◌, ◌≤◌, ◌<◌}
 use Rattle.std.proofs.Common.{arith, sym, ◌∙◌, ap, length-take-le}
 use Rattle.std.proofs.Math.Decide.{dec_lt}

@@ -1,5 +1,4 @@
--- The finding hangs only on which marks are equal: any marks that are equal exactly where the definition's are give the
--- same finding.
+-- The finding by any marks of the elements.
 use Prim.Native.Nat.{ℕ, zero, suc, ◌+◌, ◌≤◌, ◌<◌}
 use native.Mathlib.Omega.{arith}
 use Rattle.std.specs.Prelude.{◌≡◌, Bool, ◌&&◌, length, get_or, eqb}

@@ -6,7 +6,7 @@ use boardfile::Fields;
 use grid::{BRANCH, CONTACT, Column, Row, TRUNK};
 
 // A kind, the first and the last column, the lowest and the highest row.
-#[derive(Drop)]
+#[derive(Clone, Copy)]
 pub struct Cover {
     pub kind: u32,
     pub left: Column,

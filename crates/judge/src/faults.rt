@@ -12,7 +12,7 @@ ghost use Rattle.judge.specs.FaultSteps.{Finds, marks_in, owners_in};
 use crate::Fault;
 
 // What is found.
-#[derive(Drop)]
+#[derive(Clone, Copy)]
 pub enum Found {
     Nothing,
     Fault(Fault),

@@ -29,7 +29,7 @@ pub enum Fault {
 }
 
 // What the judge answers.
-#[derive(Drop)]
+#[derive(Clone, Copy)]
 pub enum JudgeAnswer {
     // the board is good; its tracks
     Good(u32),

@@ -20,8 +20,9 @@ use Rattle.lists.specs.Arrays.{numbered-at}
 use Rattle.channel.specs.Channel.{Channel, width}
 use Rattle.channel.specs.Constraints.{above, Drop, drops, Step, nets_of}
 use Rattle.channel.proofs.Laws.{above→}
-use Rattle.channel.proofs.SpanLaws.{IsNet, spanning→, above-column, lower-spans}
+use Rattle.channel.proofs.SpanLaws.{spanning→, above-column, lower-spans}
 use Rattle.channel.specs.Spans.{each512}
+use Rattle.channel.specs.Nets.{IsNet}
 use Rattle.leftedge.specs.Items.{Items}
 use Rattle.leftedge.specs.Walk.{first_drop, from_visit, walk, ring_of, ring_numbers}
 use Rattle.leftedge.specs.Nets.{net_items}

@@ -21,7 +21,7 @@ pub struct NetRecord {
 }
 
 // How a fill ends.
-#[derive(Drop)]
+#[derive(Clone, Copy)]
 pub enum Outcome {
     // every net with a span is placed, on so many tracks
     Placed(u32),
@@ -31,7 +31,7 @@ pub enum Outcome {
 
 // A fill: how it ends, the columns of each net, the track of each net by its number, 0 where it has none, and how many
 // unplaced nets it looked at, once per track scan.
-#[derive(Drop)]
+#[derive(Clone, Copy)]
 pub struct Filled {
     pub outcome: Outcome,
     pub spans: Spans,

@@ -47,7 +47,7 @@ fn lowest_net(left: &[u32; NET_SLOTS], count: usize) -> Net
 }
 
 // Where a walk closes: the net that is met again, and the number of steps between its two visits.
-#[derive(Drop)]
+#[derive(Clone, Copy)]
 struct Walked {
     again: Net,
     count: u32,

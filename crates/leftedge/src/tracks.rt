@@ -12,7 +12,7 @@ ghost use Rattle.leftedge.specs.Tables.{ScanBegins, ScanFrom, ScanDone, FillBegi
 use grid::Track;
 
 // How the fill of items ends.
-#[derive(Drop)]
+#[derive(Clone, Copy)]
 pub enum FillEnd {
     // every item is placed, on so many tracks
     Placed(u32),
@@ -21,14 +21,14 @@ pub enum FillEnd {
 }
 
 // A fill of items: how it ends, and how many unplaced items it looked at, once per track scan.
-#[derive(Drop)]
+#[derive(Clone, Copy)]
 pub struct ItemsFilled {
     pub end: FillEnd,
     pub looks: usize,
 }
 
 // A scan for one track: how many items are left, and how many it looked at.
-#[derive(Drop)]
+#[derive(Clone, Copy)]
 struct Scanned {
     rest: usize,
     looks: usize,

@@ -1,5 +1,5 @@
 // Reads a pin list on standard input and writes its listing. One byte more than the limit is read, to see that there is
-// more.
+// more. A read or write that fails ends the program with an error.
 #![tactic(auto)]
 
 use std::io;

@@ -25,27 +25,27 @@ pub length-map-from : (f : ℕ → ℕ) (m : ℕ) → length (map f (from 0 m)) 
 length-map-from f m = length-map (from 0 m) f ∙ length_from 0 m
 
 -- number n stands at place n
-pub get_d_numbered : (f : ℕ → ℕ) (m n : ℕ) → n < m → get_or (map f (from 0 m)) n 0 ≡ f n
-get_d_numbered f m n h = get_or-map-from f 0 m n h ∙ ap f (omega arith)
+pub get_or-numbered : (f : ℕ → ℕ) (m n : ℕ) → n < m → get_or (map f (from 0 m)) n 0 ≡ f n
+get_or-numbered f m n h = get_or-map-from f 0 m n h ∙ ap f (omega arith)
 
 pub numbered-at : (f : ℕ → ℕ) (m : ℕ) {xs : List ℕ} → xs ≡ map f (from 0 m) → (n : ℕ) → n < m → get_or xs n 0 ≡ f n
-numbered-at f m e n h = rw e (get_d_numbered f m n h)
+numbered-at f m e n h = rw e (get_or-numbered f m n h)
 
 -- also where what stands there is made of the numbers
 pub get_or-made : {B : Type 0} (g : ℕ → B) (f : ℕ → ℕ) (m n : ℕ) → n < m
     → get_or (map g (map f (from 0 m))) n (g 0) ≡ g (f n)
-get_or-made g f m n h = get_or-map g (map f (from 0 m)) n 0 ∙ ap g (get_d_numbered f m n h)
+get_or-made g f m n h = get_or-map g (map f (from 0 m)) n 0 ∙ ap g (get_or-numbered f m n h)
 
 pub numbered : (f : ℕ → ℕ) (m : ℕ) (xs : List ℕ) → length xs ≡ m → ((n : ℕ) → n < m → get_or xs n 0 ≡ f n)
     → xs ≡ map f (from 0 m)
 numbered f m xs long h =
     let both = length-map-from f m in
     ext_get_or 0 xs (map f (from 0 m)) (long ∙ sym both)
-    (λ n below. h n (omega arith) ∙ sym (get_d_numbered f m n (omega arith)))
+    (λ n below. h n (omega arith) ∙ sym (get_or-numbered f m n (omega arith)))
 
 pub numbered-same : (f g : ℕ → ℕ) (m : ℕ) → ((n : ℕ) → n < m → f n ≡ g n) → map f (from 0 m) ≡ map g (from 0 m)
 numbered-same f g m h =
-    numbered g m (map f (from 0 m)) (length-map-from f m) (λ n below. get_d_numbered f m n below ∙ h n below)
+    numbered g m (map f (from 0 m)) (length-map-from f m) (λ n below. get_or-numbered f m n below ∙ h n below)
 
 pub numbered-replicate : (m v : ℕ) → replicate m v ≡ map (λ n. v) (from 0 m)
 numbered-replicate m v =
@@ -68,4 +68,4 @@ set-numbered f m n v inside =
 
     other : (k : ℕ) → k < m → (k ≡ n → ⊥) → get_or (set (map f (from 0 m)) n v) k 0 ≡ cond (eqb k n) v (f k)
     other k below apart =
-        rw (ne_eqb k n apart) (get_or-set_other (map f (from 0 m)) n k v 0 apart ∙ get_d_numbered f m k below)
+        rw (ne_eqb k n apart) (get_or-set_other (map f (from 0 m)) n k v 0 apart ∙ get_or-numbered f m k below)

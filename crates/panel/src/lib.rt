@@ -16,7 +16,7 @@ use grid::{HIGHEST_NET, WIDEST};
 use refusal::{ROW_TRAY, Refusal};
 
 // What joining two lists answers.
-#[derive(Drop)]
+#[derive(Clone, Copy)]
 pub enum JoinAnswer {
     // both lent rows were filled up to this width
     Width(usize),

@@ -14,7 +14,7 @@ use grid::WIDEST;
 use refusal::{ROW_TRAY, Refusal};
 
 // What reading a text into two lent rows answers.
-#[derive(Drop)]
+#[derive(Clone, Copy)]
 pub enum ReadAnswer {
     // both rows were filled up to this width
     Width(usize),
@@ -22,7 +22,7 @@ pub enum ReadAnswer {
 }
 
 // What a text is read as: the lengths of its rows, or the place where it is garbled.
-#[derive(Drop)]
+#[derive(Clone, Copy)]
 enum TextRead {
     Rows { top: usize, bot: usize },
     Garbled(usize),

@@ -8,7 +8,7 @@ use grid::WIDEST;
 
 // What a line is read as: how many numbers it has and the place behind it, or the place of the byte that does not
 // belong.
-#[derive(Drop)]
+#[derive(Clone, Copy)]
 pub enum LineRead {
     Line { count: usize, next: usize },
     Stuck(usize),

@@ -6,7 +6,7 @@ ghost use Rattle.pinlist.specs.Code.{kept, spaces_end, number_read, NumberFound}
 use grid::HIGHEST_NET;
 
 // What stands at a place where a number is due.
-#[derive(Drop)]
+#[derive(Clone, Copy)]
 pub enum NumberRead {
     // a number, 512 where it is over 511, and the place behind it
     Number { value: u32, next: usize },
@@ -14,7 +14,7 @@ pub enum NumberRead {
 }
 
 // What the number reader answers: the end of a run of spaces, and what stands there.
-#[derive(Drop)]
+#[derive(Clone, Copy)]
 pub struct NumberAt {
     pub from: usize,
     pub number: NumberRead,

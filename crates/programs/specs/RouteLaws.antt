@@ -32,7 +32,7 @@ use Rattle.router.specs.declared.RouteAnswer.TheVariants as route
 use Rattle.router.specs.Route.{ring_shown, tangled, layout_drawn, records_made, route_trays, route_refusal, board_after}
 use Rattle.router.proofs.ContractLaws.{only-tangled, stuck-answer, filled-answer, stuck-ring, filled-board}
 use Rattle.router.specs.Code.{records_unless, RowsDone}
-use Rattle.router.proofs.CodeLawsLaws.{room}
+use Rattle.router.proofs.HeldLaws.{room}
 use Rattle.router.proofs.LentLaws.{rows-front}
 use Rattle.text.specs.Lines.{Put}
 use Rattle.report.specs.Lines.{refusal_line, ring_lines}

@@ -51,7 +51,7 @@ fn put_refusal(out: &mut [u8], refusal: Refusal) -> usize
 }
 
 // What came of reading a pin list: so many bytes of its refusal written, or the width of its rows.
-#[derive(Drop)]
+#[derive(Clone, Copy)]
 enum PinsRead {
     Refused(usize),
     Width(usize),

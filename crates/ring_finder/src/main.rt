@@ -1,5 +1,5 @@
 // Reads a pin list on standard input and writes the pairs of its ring with the fewest nets, or NONE. One byte more than
-// the limit is read, to see that there is more.
+// the limit is read, to see that there is more. A read or write that fails ends the program with an error.
 #![tactic(auto)]
 
 use std::io;

@@ -12,7 +12,8 @@ use Rattle.lists.specs.Orders.{member?}
 use Rattle.channel.specs.Channel.{Channel}
 use Rattle.channel.specs.Constraints.{Above, below, Step, nets_of, Descends, last, next}
 use Rattle.channel.specs.Answers.{Escapes}
-use Rattle.channel.proofs.SpanLaws.{IsNet, pin→net, upper-pin}
+use Rattle.channel.specs.Nets.{IsNet}
+use Rattle.channel.proofs.SpanLaws.{pin→net, upper-pin}
 use Rattle.channel.proofs.PathLaws.{above→below, below→above}
 use Rattle.rings.specs.Fewest.{leads}
 use Rattle.rings.specs.LeadLaws.{leads-none, leads-step, step-leads}

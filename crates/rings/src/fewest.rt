@@ -29,7 +29,7 @@ fn way_back(upper: &[u32], head: &[u16; NET_SLOTS], next: &[u16; COLUMN_SLOTS], 
 }
 
 // Where the ring begins, and how many nets it has; 0 and 0 if there is none.
-#[derive(Drop)]
+#[derive(Clone, Copy)]
 struct Start {
     net: u32,
     nets: u32,

@@ -11,7 +11,7 @@ use channel::RowsAnswer;
 use refusal::{RING_TRAY, Refusal};
 
 // What is answered to a request for the ring with the fewest nets.
-#[derive(Drop)]
+#[derive(Clone, Copy)]
 pub enum RingAnswer {
     // the ring's pairs, so many of them
     Pairs(u32),

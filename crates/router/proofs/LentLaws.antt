@@ -39,7 +39,7 @@ use Rattle.router.proofs.ContractLaws.{route-promise, route-turned, route-parked
 use Rattle.router.specs.Tables.{nobody, no_records}
 use Rattle.router.specs.Code.{records_unless, RouteDone, RowsDone}
 use Rattle.router.specs.CodeLaws.{HeldBy, Held}
-use Rattle.router.proofs.CodeLawsLaws.{room}
+use Rattle.router.proofs.HeldLaws.{room}
 
 module _ (ch : Channel) (table ring board : ℕ) where
   abbrev longer : List Tray

@@ -1,5 +1,5 @@
 pub mod ContractLaws
-pub mod CodeLawsLaws
+pub mod HeldLaws
 pub mod TableLaws
 pub mod Outcomes
 pub mod LentLaws

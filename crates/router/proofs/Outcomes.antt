@@ -39,7 +39,7 @@ use Rattle.router.specs.Route.{route_trays}
 use Rattle.router.specs.Tables.{records_by, Listed}
 use Rattle.router.proofs.TableLaws.{made-records}
 use Rattle.router.specs.CodeLaws.{Held, RefusedWith}
-use Rattle.router.proofs.CodeLawsLaws.{refused-held, rows-refused, stuck-held, filled-held}
+use Rattle.router.proofs.HeldLaws.{refused-held, rows-refused, stuck-held, filled-held}
 
 -- a fill that placed every net, on t tracks: the places are those of the definitions, and the array has their tracks
 pub record PlacedBy (ch : Channel) (t : ℕ) (tracks : List Track) : Type 0 where

@@ -1,4 +1,4 @@
--- The equations of the routing by value, in each of its cases.
+-- What the router's inner functions answer: the equations of the routing by value, and a refusal.
 use Rattle.std.specs.Prelude.{ℕ, ◌≤◌, ◌<◌, ◌≡◌, List, length, ltb, eqb}
 use Rattle.std.proofs.Common.{arith, ◌∙◌, ⊎_elim, ltb→lt, lt→ltb, eqb→eq}
 use Rattle.std.proofs.Math.Path.{sym, subst⁻¹}

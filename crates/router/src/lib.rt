@@ -31,7 +31,7 @@ pub enum RouteAnswer {
 // The router's answer, with the net records at the front of a table: as many as `count` says, none under a refusal; the
 // remainder is nobody's. `looks` is how many unplaced nets the fill looked at, filled or tangled, once per track scan;
 // 0 where the fill was not begun.
-#[derive(Drop)]
+#[derive(Clone, Copy)]
 pub struct Routing {
     pub answer: RouteAnswer,
     pub records: [NetRecord; RECORD_TRAY],
@@ -40,7 +40,7 @@ pub struct Routing {
 }
 
 // A table of net records, as many as `count` says.
-#[derive(Drop)]
+#[derive(Clone, Copy)]
 struct Table {
     records: [NetRecord; RECORD_TRAY],
     count: usize,
@@ -177,8 +177,7 @@ fn route_with_room(
     route_by_value(top, bot, ring, board)
 }
 
-// Stores the first `count` records of a table at the front of the caller's. The checker covers no slice of structs, so
-// this loop is proved by a walk.
+// Stores the first `count` records of a table at the front of the caller's.
 fn store_records(records: &mut [NetRecord], made: [NetRecord; RECORD_TRAY], count: usize)
     requires { (count ≤ record_tray) × (count ≤ length records.old) }
     ensures { records.new ≡ overlay (take count made) records.old }
@@ -192,7 +191,7 @@ fn store_records(records: &mut [NetRecord], made: [NetRecord; RECORD_TRAY], coun
 
 // What the router answers beside what it stores: the count is that of the records at the front of the caller's table;
 // `looks` as in `Routing`.
-#[derive(Drop)]
+#[derive(Clone, Copy)]
 pub struct Routed {
     pub answer: RouteAnswer,
     pub count: usize,

@@ -12,7 +12,7 @@ use grid::{NET_SLOTS, WIDEST};
 use refusal::Refusal;
 
 // What is answered to a request for looks, or for their ceiling.
-#[derive(Drop)]
+#[derive(Clone, Copy)]
 pub enum LooksAnswer {
     Looks(usize),
     Refused(Refusal),

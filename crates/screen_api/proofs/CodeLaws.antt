@@ -72,7 +72,7 @@ use Rattle.router.specs.declared.progress.LooksAnswer.TheVariants as progress
 use Rattle.router.specs.Route.{route_trays, route_told}
 use Rattle.router.specs.Contract.{ShowsRing, RoutePromise, TurnedOver, ParkedBare, LooksPromise}
 use Rattle.router.proofs.ContractLaws.{stuck-answer}
-use Rattle.router.proofs.CodeLawsLaws.{room}
+use Rattle.router.proofs.HeldLaws.{room}
 use Rattle.router.specs.Code.{RowsDone}
 use Rattle.router.specs.ToldLaws.{routed-small}
 use Rattle.router.specs.Progress.{looks_answer, ceiling_answer, looks_told}

@@ -17,9 +17,10 @@ use Rattle.grid.proofs.TouchLaws.{one-row, same-kind-meets}
 use Rattle.channel.specs.Channel.{Channel, width, last_column}
 use Rattle.channel.specs.Density.{density}
 use Rattle.channel.specs.Answers.{Escapes}
+use Rattle.channel.specs.Nets.{nets_over, Over}
 use Rattle.channel.proofs.Laws.{net→pin, pin-in-first, pin-in-last}
 use Rattle.channel.proofs.SpanLaws.{span-strict, spanning→}
-use Rattle.channel.proofs.DensityLaws.{nets_over, Over, over→, over-distinct, density-reached}
+use Rattle.channel.proofs.DensityLaws.{over→, over-distinct, density-reached}
 use Rattle.wiring.specs.Pins.{Pin, net_of, IsPin}
 use Rattle.wiring.specs.Layouts.{pin, copper, Present, Touching, Joined, Good}
 use Rattle.wiring.specs.Chains.{joined-trans, joined_snoc, joined-sym}

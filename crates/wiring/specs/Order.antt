@@ -18,7 +18,8 @@ use Rattle.grid.proofs.TouchLaws.{one-row, same-kind-meets}
 use Rattle.channel.specs.Channel.{Channel, width}
 use Rattle.channel.specs.Constraints.{Above, Step, Descends, last, next, Ring}
 use Rattle.channel.specs.Answers.{Escapes}
-use Rattle.channel.proofs.Laws.{PinIn, net-positive}
+use Rattle.channel.specs.Nets.{PinIn}
+use Rattle.channel.proofs.Laws.{net-positive}
 use Rattle.channel.proofs.SpanLaws.{upper-another, lower-another}
 use Rattle.wiring.specs.Pins.{Pin, top, bot, column_of, row_of, net_of, IsPin}
 use Rattle.wiring.specs.Layouts.{pin, Present, Touching, Good, TrunkOf, OneTrunkEach}

@@ -5,7 +5,7 @@ use native.Mathlib.Omega.{arith}
 use mathlib.Core.Path.{sym}
 use Rattle.channel.specs.Channel.{rows}
 use Rattle.channel.proofs.BoundLaws.{accepted→escapes}
-use Rattle.router.proofs.CodeLawsLaws.{refused-held, short-ring, short-board}
+use Rattle.router.proofs.HeldLaws.{refused-held, short-ring, short-board}
 use Rattle.router.proofs.Outcomes.{rows-held}
 use Rattle.router.proofs.route_by_value.Goals as goal
 

@@ -3,7 +3,7 @@
 use native.Mathlib.Omega.{arith}
 use lib.ListN.{length}
 use Rattle.channel.specs.Channel.{rows}
-use Rattle.router.proofs.CodeLawsLaws.{refused-held}
+use Rattle.router.proofs.HeldLaws.{refused-held}
 use Rattle.router.proofs.LentLaws.{short-table, widened}
 use Rattle.router.proofs.route_with_room.Goals as goal
 
