@@ -24,7 +24,7 @@ def kit_needed():
 
 def programs(names):
     """Proves and builds programs, and puts each in its place. No word of `rt` only links one: `rt run` runs it too, here
-    on no input and unheard, and what comes of that tells nothing."""
+    on no input and with its answer unheard."""
     build("run", names, "build_programs.txt")
     for name in names:
         take(places.ROOT / "crates" / name / "out" / name, places.PROGRAMS / name)
@@ -79,7 +79,8 @@ def build(word, names, log_name):
 
 
 def follow(word, name, told, log):
-    """Runs the kit in one crate's folder. The status of `rt run` is the program's own, once that runs."""
+    """Runs the kit in one crate's folder. The status of `rt run` is the program's own, once that runs: it too has to be
+    good."""
     runs = word == "run"
     with subprocess.Popen(["rt", word], cwd=places.ROOT / "crates" / name, text=True, errors="replace",
                           stdin=subprocess.DEVNULL, stdout=subprocess.DEVNULL if runs else subprocess.PIPE,
@@ -89,7 +90,7 @@ def follow(word, name, told, log):
         except BaseException:  # a stopped command does not wait for the kit
             running.terminate()
             raise
-    if not is_run if runs else running.returncode != 0:
+    if running.returncode != 0 or runs and not is_run:
         raise Failure(f"rt {word} in crates/{name} failed with status {running.returncode}; the log is "
                       f"{places.shown(log)}")
 

@@ -7,7 +7,7 @@ from pathlib import Path
 from command.tests.workshop import LISTED, PROGRAMS, ROOT, Workshop, copy_command, write_program
 
 # Stands in for the kit: notes its words and the crate that it is called in, tells of each crate as the kit does, and
-# copies the program into that crate's `out`; its status is that of the program, which it would run.
+# copies the program into that crate's `out`; its status is 0, as that of the program which it would run.
 KIT = """
 if [ "$1" = version ]; then echo "$KIT_VERSION"; exit; fi
 name=$(basename "$PWD")
@@ -19,7 +19,7 @@ if [ -e ../../broken ]; then prove $name not-proved; exit 1; fi
 mkdir -p out
 cp "PROGRAMS/$name" out/ && prove $name proved
 echo "rt: running out/$name; to give it other input, run that file yourself"
-exit 3
+exit 0
 """
 CRATES = ("lists:\nother: lists\nlisting: lists io\nboard_writer: lists\nboard_judge: lists other\nring_finder: lists\n"
           "panel_joiner: lists\n")
@@ -114,10 +114,14 @@ class Sources(Workshop):
 
     def test_a_program_that_the_kit_does_not_run(self):
         kit = self.room / "kit" / "rt"
-        kit.write_text(kit.read_text().replace("rt: running", "rt: not running").replace("exit 3", "exit 0"))
-        done = self.channel("list", "pins")
-        self.assertEqual((done.status, done.output), (2, b""))
-        self.assertFalse((self.tree / "target" / "bin" / "listing").exists())
+        for old, new in (("rt: running", "rt: not running"), ("exit 0", "exit 3")):
+            with self.subTest(new):
+                before = kit.read_text()
+                kit.write_text(before.replace(old, new))
+                done = self.channel("list", "pins")
+                self.assertEqual((done.status, done.output), (2, b""))
+                self.assertFalse((self.tree / "target" / "bin" / "listing").exists())
+                kit.write_text(before)
 
     def test_a_kit_that_leaves_no_program(self):
         kit = self.room / "kit" / "rt"

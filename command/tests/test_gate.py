@@ -9,7 +9,8 @@ from pathlib import Path
 
 from command.tests.workshop import ROOT, write_program
 
-PASSING = "echo proving; echo 7 passed, 0 failed"
+VERDICT = "rt: ok; must-fail edits: 5 refused; kept"
+PASSING = f"echo proving; echo '{VERDICT}'; echo 7 passed, 0 failed"
 # stands in for Python where ./test calls it, and runs a step's file by the shell, which is quicker
 PYTHON = 'if [ "$1" = -B ]; then exec sh command/built.py; fi; exec sh "$1"'
 STEPS = ("reference/compare.py", "reference/examples.py", "screen/test_order.py", "command/test_command.py",
@@ -70,7 +71,8 @@ class LastLine(unittest.TestCase):
 
     def test_a_gate_that_fails(self):
         for script, due in (("echo 6 passed, 1 failed; exit 1", "6 passed, 1 failed"),
-                            ("echo 7 passed, 0 failed; exit 1", "7 passed, 1 failed"),
+                            (f"{PASSING}; exit 1", "7 passed, 1 failed"), ("echo 7 passed, 0 failed", "7 passed, 1 failed"),
+                            ("echo 'rt: okay'; echo 7 passed, 0 failed", "7 passed, 1 failed"),
                             ("echo 5 passed, 2 failed", "5 passed, 2 failed"),
                             ("echo 7 passed, 0 failed; echo; echo more", "0 passed, 1 failed"),
                             ("echo 'rt: ok; must-fail edits: 5 refused, 2 bad; kept'; echo 7 passed, 0 failed",
@@ -83,7 +85,7 @@ class LastLine(unittest.TestCase):
                 self.assertFalse(any("ran" in line.split() for line in lines))
 
     def test_words_of_bad_edits_that_are_none(self):
-        for line in ("rt: ok; must-fail edits: 5 refused; kept", "lists: a note, 2 bad lines"):
+        for line in (VERDICT, "lists: a note, 2 bad lines"):
             write_program(self.tree / "bin" / "rt", f"echo '{line}'; {PASSING}")
             self.assertEqual(self.run_test()[1][-1], "7 passed, 0 failed")
 

@@ -1,6 +1,6 @@
 -- The four ways in which the choice among a customer's own blanks ends, each by what it means. What is answered in each
 -- is what the definitions say, and meets the promise, since no two of them go together.
-use Rattle.std.specs.Prelude.{ℕ, ◌≤◌, ◌<◌, ◌≡◌, refl, List, ◌⊎◌, length, get_or, ltb}
+use Rattle.std.specs.Prelude.{ℕ, ◌≤◌, ◌<◌, ◌≡◌, refl, List, length, get_or, ltb}
 use Rattle.std.proofs.Common.{arith, ◌∙◌, inl, inr, ⊎_elim, lt→ltb, le-ltb}
 use Rattle.std.proofs.Math.Decide.{dec_le}
 use Rattle.std.proofs.Math.Path.{sym, ap, subst}

@@ -6,7 +6,6 @@ use Rattle.std.proofs.Math.Decide.{dec_le}
 use Rattle.std.specs.Prelude.{◌≡◌, List, ◌↔◌, ◌⊎◌, Bool, ◌&&◌, length, get_or, ltb}
 use Rattle.std.proofs.Math.Path.{sym, ap}
 use Rattle.std.proofs.Math.Logic.{⊎_elim}
-use Rattle.std.proofs.Math.Option.{none}
 use Rattle.std.proofs.Math.Dec.{T, ltb→lt}
 use Rattle.lists.specs.Lists.{head_or, within, at}
 use Rattle.lists.specs.Tests.{and_left, and_right, and_both, not-passes, not-fails, passes?, within→, →within}

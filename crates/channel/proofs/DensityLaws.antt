@@ -1,8 +1,8 @@
 -- The density as a count of nets: it is the number of nets over some column, and no column has more.
 use Rattle.std.specs.Prelude.{ℕ, ◌≤◌, ◌<◌, ◌≡◌, length}
 use Rattle.std.proofs.Common.{sym, ◌∙◌, ap}
-use mathlib.Core.List.{List, Memᴰ}
-use Rattle.lists.specs.Lists.{keep, up_to, greatest, within, Distinct}
+use mathlib.Core.List.{Memᴰ}
+use Rattle.lists.specs.Lists.{up_to, greatest, within, Distinct}
 use Rattle.lists.specs.Tests.{within→, →within}
 use Rattle.lists.specs.Members.{keep-member, kept, up_to-member}
 use Rattle.lists.specs.Ends.{keep-rising, rising-distinct}

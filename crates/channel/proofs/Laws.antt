@@ -1,6 +1,6 @@
 -- What the definitions of a channel say of its nets: where their pins stand, which of them have spans, and that a net
 -- above or below another has one.
-use Rattle.std.specs.Prelude.{ℕ, zero, suc, ◌+◌, ◌-◌, ◌≤◌, ◌<◌, ◌≡◌, refl, ◌⊎◌, ◌&&◌, not, length, get_or, T, ltb, eqb}
+use Rattle.std.specs.Prelude.{ℕ, zero, suc, ◌+◌, ◌-◌, ◌≤◌, ◌<◌, ◌≡◌, refl, ◌&&◌, not, length, get_or, T, ltb, eqb}
 use Rattle.std.proofs.Common.{arith, sym, ◌∙◌, ap, subst, inl, inr, ⊎_elim, length-append, get_or-append-add, ltb→lt, lt→ltb, eqb→eq}
 use Rattle.std.proofs.Math.Decide.{dec_lt}
 use mathlib.Core.List.{List, [], ◌∷◌, map, Memᴰ}

@@ -1,5 +1,5 @@
 -- 02, Req 05: the ring with the fewest nets, beside the one that the walk of 01 shows, by one computed check.
-use Rattle.std.specs.Prelude.{ℕ, ◌≡◌, refl, List, [], ◌∷◌, ◌++◌, true, length}
+use Rattle.std.specs.Prelude.{ℕ, ◌≡◌, refl, List, [], ◌∷◌, true}
 use Rattle.lists.specs.Lists.{keep, each, any_of, all_of, from, head_or, last_or, greatest, least, at}
 use Rattle.refusal.specs.Refusals.{refuse_if, refuse_at_first, ◌or_else◌, answered, filled_unless}
 use Rattle.refusal.specs.Trays.{short_tray}

@@ -3,7 +3,7 @@ use Prim.Native.Nat.{ℕ, suc, ◌+◌, ◌-◌, ◌≤◌, ◌<◌}
 use Rattle.std.proofs.Common.{arith, ◌∙◌, subst, eqb→eq}
 use Rattle.std.specs.Prelude.{◌≡◌, refl, Bool, true, false, ◌&&◌, length, get_or, set, T}
 use Rattle.std.proofs.Math.Path.{sym, ap}
-use mathlib.Core.List.{List, [], ◌∷◌, map, Memᴰ}
+use mathlib.Core.List.{List, [], ◌∷◌, Memᴰ}
 use Rattle.std.proofs.Math.Bool.{not}
 use Rattle.std.proofs.Math.Option.{Option, none, some}
 use Rattle.std.proofs.Math.ListN.{length-map, get_or-map}
@@ -14,14 +14,13 @@ use Rattle.lists.specs.Tests.{true→T, false→fails, not-fails, not-passes}
 use Rattle.lists.specs.Updates.{map_at, map-set}
 use Rattle.lists.specs.Members.{keep-member, up_to-member}
 use Rattle.grid.specs.Pieces.{Layout}
-use Rattle.channel.specs.Channel.{Channel, highest_net, width, positions, rows}
+use Rattle.channel.specs.Channel.{Channel, highest_net, width, positions}
 use Rattle.channel.specs.Answers.{Escapes}
 use Rattle.wiring.specs.Pins.{Pin, top, bot, net_of, pin_at}
 use Rattle.judge.specs.declared.Fault.{Fault}
 use Rattle.judge.specs.declared.Fault.TheVariants.{Short, Open, Floating}
-use Rattle.judge.specs.declared.faults.Found.{Found}
 use Rattle.judge.specs.declared.faults.Found.TheVariants as found
-use Rattle.classes.specs.Halves.{half, low_half, high_half, number_of, low_small, low-number, high-number, high-none}
+use Rattle.classes.specs.Halves.{low_half, high_half, number_of, low_small, low-number, high-number, high-none}
 use Rattle.judge.specs.PinPlaces.{position-net}
 use Rattle.judge.specs.Finding.{pins, first_of_net, shorts, opens, floating, fault_at_first}
 use Rattle.judge.specs.SameFinding.{found_by}

@@ -7,7 +7,6 @@ use Rattle.std.proofs.Common.{sym, subst, eqb→eq}
 use Rattle.std.proofs.Math.Path.{ap}
 use mathlib.Core.List.{List, Memᴰ}
 use Rattle.std.proofs.Math.Bool.{not}
-use Rattle.std.proofs.Math.Option.{Option, none}
 use Rattle.std.proofs.Math.Dec.{ltb}
 use Rattle.lists.specs.Lists.{at, up_to}
 use Rattle.lists.specs.Tests.{same_test, eq→T}
@@ -16,9 +15,7 @@ use Rattle.lists.specs.Tallies.{keep_same, any_same}
 use Rattle.grid.specs.Pieces.{Layout}
 use Rattle.channel.specs.Channel.{Channel, width, positions}
 use Rattle.channel.specs.Answers.{Escapes}
-use Rattle.judge.specs.declared.Fault.{Fault}
-use Rattle.judge.specs.declared.Fault.TheVariants.{Short, Open, Floating}
-use Rattle.judge.specs.Finding.{marks, pins, first_of_net, shorts, opens, floating, fault_at_first, finding}
+use Rattle.judge.specs.Finding.{marks, pins, first_of_net, shorts, opens, floating, finding}
 use Rattle.judge.specs.FindingLaws.{first-of-net}
 use Rattle.judge.specs.PinPlaces.{pins-member, pin-inside}
 use Rattle.judge.specs.SameFinding.{found_by}

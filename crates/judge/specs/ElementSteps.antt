@@ -1,21 +1,9 @@
 -- What the judging of a board's elements stands on: rows, file and room that nothing refuses, and a number for each.
-use Prim.Native.Nat.{ℕ, zero, suc, ◌+◌, ◌≤◌, ◌<◌}
-use Rattle.std.proofs.Common.{arith, sym, ◌∙◌, ap, length-take-le}
-use Rattle.std.proofs.Math.Decide.{dec_lt}
-use Rattle.std.specs.Prelude.{◌≡◌, List, map, true, false, length, get_or, take}
-use Rattle.std.proofs.Math.Path.{refl}
-use Rattle.std.proofs.Math.ListN.{get_or-map, get_or-eq_default}
-use Rattle.lists.specs.Lists.{from}
-use Rattle.lists.specs.Places.{length_from}
-use Rattle.lists.specs.Arrays.{length-map-from, numbered-at}
+use Prim.Native.Nat.{ℕ, ◌+◌, ◌≤◌}
+use Rattle.std.specs.Prelude.{◌≡◌, List, length}
 use Rattle.refusal.specs.Trays.{scratch_tray}
-use Rattle.classes.specs.Halves.{half, high_half, low_same, high-none, high-low}
-use Rattle.classes.specs.Forest.{Forest, root_of}
-use Rattle.classes.specs.ForestLaws.{root_below}
-use Rattle.classes.specs.FlatLaws.{alone-forest}
-use Rattle.classes.specs.Lines.{AllJoined}
 use Rattle.channel.specs.Channel.{Channel, width}
-use Rattle.boardfile.specs.Open.{file_count, file_layout}
+use Rattle.boardfile.specs.Open.{file_count}
 use Rattle.judge.specs.LineSteps.{Judgeable}
 
 -- nothing is refused, and these are the fields of the file

@@ -1,26 +1,16 @@
 -- What the functions that find the faults ask and answer.
-use Prim.Native.Nat.{ℕ, suc, ◌+◌, ◌-◌, ◌≤◌, ◌<◌}
-use Rattle.std.proofs.Common.{arith, ◌∙◌, subst, eqb→eq}
-use Rattle.std.specs.Prelude.{◌≡◌, refl, Bool, true, false, ◌&&◌, length, get_or, set, T}
-use Rattle.std.proofs.Math.Path.{sym, ap}
-use mathlib.Core.List.{List, [], ◌∷◌, map, Memᴰ}
-use Rattle.std.proofs.Math.Bool.{not}
+use Prim.Native.Nat.{ℕ, ◌+◌, ◌≤◌, ◌<◌}
+use Rattle.std.specs.Prelude.{◌≡◌, Bool, true, false, length, get_or, set}
+use mathlib.Core.List.{List, ◌∷◌, map}
 use Rattle.std.proofs.Math.Option.{Option, none, some}
-use Rattle.std.proofs.Math.ListN.{length-map, get_or-map}
-use Rattle.std.proofs.Math.Seq.{map-set_same}
-use Rattle.std.proofs.Math.Dec.{ltb, eqb, eqb_refl}
-use Rattle.lists.specs.Lists.{keep, any_of, up_to, head_or, at}
-use Rattle.lists.specs.Tests.{true→T, false→fails, not-fails, not-passes}
-use Rattle.lists.specs.Updates.{map_at, map-set}
-use Rattle.lists.specs.Members.{keep-member, up_to-member}
+use Rattle.lists.specs.Lists.{head_or}
 use Rattle.grid.specs.Pieces.{Layout}
-use Rattle.channel.specs.Channel.{Channel, highest_net, width, positions, rows}
+use Rattle.channel.specs.Channel.{Channel, width, rows}
 use Rattle.channel.specs.Answers.{Escapes}
-use Rattle.wiring.specs.Pins.{Pin, top, bot, net_of, pin_at}
 use Rattle.judge.specs.declared.Fault.{Fault}
 use Rattle.judge.specs.declared.faults.Found.{Found}
 use Rattle.judge.specs.declared.faults.Found.TheVariants as found
-use Rattle.classes.specs.Halves.{half, low_half, high_half, number_of, low_small, low-number, high-number, high-none}
+use Rattle.classes.specs.Halves.{half, low_half, high_half}
 use Rattle.judge.specs.Finding.{shorts, floating}
 use Rattle.judge.specs.SameFinding.{found_by}
 use Rattle.judge.specs.Searches.{Owned}

@@ -1,6 +1,6 @@
 -- The first and the last of those of a range that pass a test: members, and the least and the greatest of them. And a
 -- second occurrence where a number does not stand just once, and none where it does.
-use Rattle.std.specs.Prelude.{ℕ, zero, suc, ◌+◌, ◌-◌, ◌≤◌, ◌<◌, ◌≡◌, ◌⊎◌, Bool, true, false, cond, length, get_or, T, eqb}
+use Rattle.std.specs.Prelude.{ℕ, zero, suc, ◌+◌, ◌-◌, ◌≤◌, ◌<◌, ◌≡◌, Bool, true, false, cond, length, get_or, T, eqb}
 use Rattle.std.proofs.Common.{arith, add-one, sym, ◌∙◌, ap, subst, ⊎_elim, eqb→eq}
 use Rattle.std.proofs.Math.Path.{refl}
 use mathlib.Core.List.{List, [], ◌∷◌, map, Memᴰ}

@@ -1,6 +1,6 @@
 -- The first number of a range that passes a test: none passes, or it is the lowest that does. And conditions that hold
 -- of the same numbers have the same lowest.
-use Rattle.std.specs.Prelude.{ℕ, zero, suc, ◌+◌, ◌≤◌, ◌<◌, ◌≡◌, refl, List, [], ◌∷◌, ◌↔◌, ◌⊎◌, Bool, true, false, cond, T}
+use Rattle.std.specs.Prelude.{ℕ, zero, suc, ◌+◌, ◌≤◌, ◌<◌, ◌≡◌, refl, List, [], ◌∷◌, ◌↔◌, Bool, true, false, cond, T}
 use Rattle.std.proofs.Common.{arith, subst, ⊎_elim}
 use Rattle.lists.specs.Lists.{keep, from, Lowest}
 use Rattle.lists.specs.Tests.{true→T, false→fails, equal?}

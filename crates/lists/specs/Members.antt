@@ -1,5 +1,5 @@
 -- Membership in the lists that `keep`, `each`, `from` make, and what `any_of`, `all_of`, `is_in` tell of it.
-use Rattle.std.specs.Prelude.{ℕ, zero, suc, ◌+◌, ◌≤◌, ◌<◌, ◌≡◌, ◌⊎◌, Bool, cond, ◌||◌, eqb}
+use Rattle.std.specs.Prelude.{ℕ, zero, suc, ◌+◌, ◌≤◌, ◌<◌, ◌≡◌, Bool, cond, ◌||◌, eqb}
 use Rattle.std.proofs.Common.{arith, sym, eqb→eq}
 use Rattle.std.proofs.Math.Path.{refl, subst}
 use mathlib.Core.List.Memᴰ

@@ -1,7 +1,7 @@
 -- Pigeonhole: different numbers that all stand in a list are no more than its members.
-use Prim.Native.Nat.{ℕ, suc, ◌+◌, ◌≤◌, ◌<◌}
+use Prim.Native.Nat.{ℕ, suc, ◌≤◌, ◌<◌}
 use native.Mathlib.Omega.{arith}
-use Rattle.std.specs.Prelude.{◌≡◌, ◌⊎◌, Bool, cond, not, eqb}
+use Rattle.std.specs.Prelude.{◌≡◌, Bool, cond, not, eqb}
 use Rattle.std.proofs.Math.Path.{refl, ap, subst}
 use Rattle.std.proofs.Common.{sym, map-id, eqb→eq}
 use mathlib.Core.List.Memᴰ

@@ -1,5 +1,5 @@
 -- A rising list is determined by its members.
-use Rattle.std.specs.Prelude.{ℕ, ◌≡◌, refl, ◌⊎◌}
+use Rattle.std.specs.Prelude.{ℕ, ◌≡◌, refl}
 use Rattle.std.proofs.Common.{arith, sym, ap₂, ⊎_elim}
 use mathlib.Core.List.Memᴰ
 use mathlib.Core.List.{List, [], ◌∷◌, Memᴰ}

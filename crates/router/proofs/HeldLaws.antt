@@ -37,7 +37,7 @@ use Rattle.router.specs.Route.{
 }
 use Rattle.router.proofs.ContractLaws.{only-tangled, stuck-answer, filled-answer, stuck-ring, filled-board}
 use Rattle.router.proofs.ContractLaws.{looks-begun}
-use Rattle.router.specs.Tables.{no_records, Listed}
+use Rattle.router.specs.Tables.{Listed}
 use Rattle.router.specs.Code.{records_unless}
 use Rattle.router.specs.CodeLaws.{Held, HeldBy, RefusedWith}
 

@@ -1,25 +1,9 @@
 -- What the router's inner functions answer: the equations of the routing by value, and a refusal.
-use Rattle.std.specs.Prelude.{ℕ, ◌≤◌, ◌<◌, ◌≡◌, List, length, ltb, eqb}
-use Rattle.std.proofs.Common.{arith, ◌∙◌, ⊎_elim, ltb→lt, lt→ltb, eqb→eq}
-use Rattle.std.proofs.Math.Path.{sym, subst⁻¹}
-use mathlib.Core.List.Memᴰ
-use Rattle.std.proofs.Math.Option.{none, some}
-use Rattle.lists.specs.Lists.{keep, overlay}
-use Rattle.lists.specs.Tests.{T→true, fails→false}
+use Rattle.std.specs.Prelude.{ℕ, ◌≡◌, List, length}
 use Rattle.refusal.specs.declared.Refusal.{Refusal}
-use Rattle.refusal.specs.declared.Refusal.TheVariants as refusal
-use Rattle.refusal.specs.Refusals.{number_of, refuse_at_first, ◌or_else◌, answered, filled_unless}
-use Rattle.refusal.specs.ChainLaws.{some-or-else, none-or-else-later}
-use Rattle.refusal.specs.Trays.{Tray, ring_tray, board_tray, short_tray}
-use Rattle.refusal.specs.TrayLaws.{trays-fit}
-use Rattle.channel.specs.Channel.{Channel, width}
-use Rattle.channel.specs.Answers.{Escapes, rows_refusal}
-use Rattle.leftedge.specs.Items.{Place}
-use Rattle.leftedge.specs.Fill.{filled, stuck}
-use Rattle.leftedge.specs.Walk.{ring_of, ring_numbers}
-use Rattle.leftedge.specs.Nets.{net_items, fill, looks, records}
-use Rattle.boardfile.specs.Encode.{encode}
-use Rattle.drawing.specs.Draw.{draw}
+use Rattle.refusal.specs.Trays.{Tray}
+use Rattle.channel.specs.Channel.{Channel}
+use Rattle.leftedge.specs.Nets.{fill}
 use Rattle.router.specs.declared.Routing.{Routing}
 use Rattle.router.specs.declared.RouteAnswer.TheVariants as route
 use Rattle.router.specs.Route.{records_made, route_trays, route_refusal, route_answer, records_after, board_after, ring_after, looks_answered}

@@ -1,6 +1,6 @@
 -- Crossing: a chain from the left of a column boundary to its right has a trunk over the boundary, since only a trunk
 -- covers two columns.
-use Rattle.std.specs.Prelude.{ℕ, ◌≤◌, ◌<◌, ◌≡◌, ◌⊎◌}
+use Rattle.std.specs.Prelude.{ℕ, ◌≤◌, ◌<◌, ◌≡◌}
 use Rattle.std.proofs.Common.{arith}
 use Rattle.std.proofs.Math.Decide.{dec_le}
 use mathlib.Core.List.{Memᴰ}

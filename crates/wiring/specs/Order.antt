@@ -1,7 +1,7 @@
 -- The order of trunks. In a good layout, where net a is above net b in a column, the trunk by which a leaves the column
 -- is above that of b: otherwise branches of both cover one point of the column and touch. With one trunk piece per net
 -- this runs down every path, and round no ring.
-use Rattle.std.specs.Prelude.{ℕ, ◌≤◌, ◌<◌, ◌≡◌, refl, ◌⊎◌}
+use Rattle.std.specs.Prelude.{ℕ, ◌≤◌, ◌<◌, ◌≡◌, refl}
 use native.Mathlib.Omega.{arith}
 use Rattle.std.proofs.Math.Decide.{dec_le}
 use Rattle.std.proofs.Math.Path.{sym, subst}

@@ -1,4 +1,4 @@
-use Rattle.std.proofs.Common.{◌≡◌, refl, sym, arith, below_more}
+use Rattle.std.proofs.Common.{refl, sym, arith, below_more}
 use mathlib.Core.Logic.{⊎_elim}
 use Rattle.lists.specs.Lists.{at}
 use Rattle.lists.specs.Ends.{at_suc, at_next}
