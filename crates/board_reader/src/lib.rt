@@ -78,3 +78,24 @@ pub fn read_piece(board: &[u8], number: usize) -> PieceAnswer
 {
     over(board).piece(number)
 }
+
+#[cfg(test)]
+mod tests {
+    use super::*;
+
+    // The board of TOP 0 1 2 3 and BOT 1 2 0 3, of 11 pieces.
+    const BOARD: [u8; 48] = [
+        1, 0, 64, 22, 0, 32, 4, 2, 64, 16, 0, 2, 128, 16, 8, 2, 64, 32, 8, 3, 128, 32, 8, 2, 0, 16,
+        8, 3, 64, 32, 0, 1, 128, 32, 4, 1, 64, 48, 4, 3, 128, 48, 4, 1, 64, 64, 0, 3,
+    ];
+
+    // One reader is asked again and again: it is copied, not used up.
+    #[test]
+    fn a_reader_answers_more_than_once(rt: HostRuntime) {
+        let reader = over(&BOARD);
+        assert!(rt; matches!(reader.piece(1), PieceAnswer::Found(_)));
+        assert!(rt; matches!(reader.piece(11), PieceAnswer::Found(_)));
+        assert!(rt; matches!(reader.piece(12), PieceAnswer::Refused(_)));
+        assert!(rt; matches!(reader.opening(), OpenAnswer::Board { count: 11, .. }));
+    }
+}
