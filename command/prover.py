@@ -24,7 +24,7 @@ def kit_needed():
 
 def programs(names):
     """Proves and builds programs, and puts each in its place. No word of `rt` only links one: `rt run` runs it too, here
-    on no input and with its answer unheard."""
+    with standard input empty and what it writes dropped."""
     build("run", names, "build_programs.txt")
     for name in names:
         take(places.ROOT / "crates" / name / "out" / name, places.PROGRAMS / name)
@@ -37,7 +37,7 @@ def static_library(name):
 
 
 def take(made, place):
-    """Puts what `rt` made in its place whole: the gate empties the folders of the crates."""
+    """Puts what `rt` made in its place whole: the gate takes away what was linked in a crate's `out`."""
     new = place.with_name(f".{place.name}.{os.getpid()}")
     try:
         place.parent.mkdir(parents=True, exist_ok=True)

@@ -1,5 +1,4 @@
-// The board reader: opened over the lent bytes of a board file, it answers the piece of a given number. Its branches are
-// in functions on the slice and the numbers.
+// The board reader: opened over the lent bytes of a board file, it answers the piece of a given number.
 #![tactic(auto)]
 
 ghost use Rattle.std.specs.Prelude.{◌≡◌};

@@ -1,4 +1,5 @@
--- Being a net, having a pin in a column, and lying over a column: what laws of other crates say of a net.
+-- Being a net, having a pin in a column, and lying over a column: what contracts
+-- and laws of other crates say of a net.
 use Rattle.std.specs.Prelude.{ℕ, ◌≤◌, ◌<◌, ◌≡◌, ◌⊎◌, T}
 use mathlib.Core.List.{List, Memᴰ}
 use Rattle.lists.specs.Lists.{keep, at, within}

@@ -1,4 +1,4 @@
-// Reading as far as there is room, for the programs.
+// Reading to the end, or as far as there is room, for the programs.
 #![tactic(auto)]
 
 ghost use Rattle.std.specs.Prelude.{ℕ, ◌-◌, ◌<◌, ◌≤◌, IfErr, IfOk, length, take};
@@ -9,8 +9,8 @@ use std::fs;
 use std::io::{self, Read};
 use std::rt::Files;
 
-// Reads to the end, or as far as there is room, and answers how many bytes there are. A read that fails is the error;
-// what was read before it stands in front.
+// Reads to the end, or as far as there is room, and answers how many bytes there are. A read that fails is answered as
+// its error; what was read before it then stands at the front of `bytes`.
 pub fn read_full<R: Read>(reader: &mut R, bytes: &mut [u8]) -> io::Result<usize>
     ensures prefix_len { IfOk result (λ n. IsPrefixLen n bytes.new) }
     ensures read { IfOk result (λ n. Consumes (R.remaining reader.old) (R.remaining reader.new) (take n bytes.new)) }

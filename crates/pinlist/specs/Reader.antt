@@ -1,5 +1,5 @@
--- The reader of a pin list as a function: an automaton that takes a byte at a time. The laws beside it say that it
--- answers the rows of exactly the texts of the form, and the place of `GarbledAt` for every other text.
+-- The reader of a pin list as a function: an automaton that takes a byte at a time. The laws of ReaderLaws say that
+-- it answers the rows of exactly the texts of the form, and the place of `GarbledAt` for every other text.
 use Rattle.std.specs.Prelude.{ℕ, suc, ◌+◌, ◌-◌, ◌*◌, List, [], ◌∷◌, ◌++◌, cond, eqb}
 use Rattle.std.proofs.Math.Option.{Option, none, some}
 use Rattle.lists.specs.Lists.{within}

@@ -1,2 +1,2 @@
-// The promises that span the parts: demands 2 and 3 over the wiring rule. See specs/. There is no code here.
+// The promises that span the parts: demands 2 and 3 over the wiring rule. See specs/ and proofs/. There is no code here.
 #![tactic(auto)]
