@@ -90,9 +90,11 @@ def follow(word, name, told, log):
         except BaseException:  # a stopped command does not wait for the kit
             running.terminate()
             raise
-    if running.returncode != 0 or runs and not is_run:
+    if running.returncode != 0:
         raise Failure(f"rt {word} in crates/{name} failed with status {running.returncode}; the log is "
                       f"{places.shown(log)}")
+    if runs and not is_run:
+        raise Failure(f"rt {word} in crates/{name} did not come to run it; the log is {places.shown(log)}")
 
 
 class Told:

@@ -114,12 +114,14 @@ class Sources(Workshop):
 
     def test_a_program_that_the_kit_does_not_run(self):
         kit = self.room / "kit" / "rt"
-        for old, new in (("rt: running", "rt: not running"), ("exit 0", "exit 3")):
+        for old, new, why in (("rt: running", "rt: not running", "did not come to run it"),
+                              ("exit 0", "exit 3", "failed with status 3")):
             with self.subTest(new):
                 before = kit.read_text()
                 kit.write_text(before.replace(old, new))
                 done = self.channel("list", "pins")
                 self.assertEqual((done.status, done.output), (2, b""))
+                self.assertIn(f"rt run in crates/listing {why}; the log is target/log/build_programs.txt", done.words)
                 self.assertFalse((self.tree / "target" / "bin" / "listing").exists())
                 kit.write_text(before)
 
