@@ -20,7 +20,7 @@ PAIRWISE_GOAL = 25  # how many times longer the pairwise judge takes on each boa
 GROWTH_GOALS = {"bounds": 1.2}  # the power of the width, from 64 to 512 columns
 WIDTHS = (64, 128, 256, 512)
 SHAPES = {  # the name and what it is
-    "example-B": ("example B", "the paper's; joined with itself"),
+    "example-B": ("example B", "the scope's; joined with itself"),
     "dense": ("density 256", "256 nets, one inside the other, no two in a column"),
     "padded": ("density 256, padded", "the same list in columns of four, a carriage return before each line feed"),
     "chain": ("chain of 511", "511 nets, each above the next"),

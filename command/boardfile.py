@@ -1,4 +1,4 @@
-"""The bytes of a board file as pieces (01, "Board file"), for messages and pictures. Nothing is judged here."""
+"""The bytes of a board file as pieces (SCOPE, "Board file"), for messages and pictures. Nothing is judged here."""
 from collections import namedtuple
 
 KINDS = ("trunk", "branch", "contact", "none")

@@ -1,4 +1,4 @@
-"""Which copper of a board is joined (01, "Wiring rule"), to name both ends of a short that the judge has found."""
+"""Which copper of a board is joined (SCOPE, "Wiring rule"), to name both ends of a short that the judge has found."""
 from bisect import bisect_right
 
 

@@ -4,7 +4,7 @@ from pathlib import Path
 
 TABLE = Path(__file__).resolve().parent / "refusals.tsv"
 HEADING = ["number", "word", "meaning", "remedy"]
-UNUSED = (6, 17, 19, 20)  # stand for no refusal; the numbers after them are as the papers have them
+UNUSED = (6, 17, 19, 20)  # stand for no refusal; the numbers after them are as the scope has them
 NUMBERS = tuple(number for number in range(24) if number not in UNUSED)
 TOO_WIDE, TANGLED = 3, 7
 OF_BOARDS, FAULTS = range(8, 14), range(11, 14)  # of a board file: all, and those that the judge finds in a layout

@@ -96,7 +96,7 @@ PADDED = ("A", "512 columns", "parked, opposite a net", "ring D", "ring parked",
 
 
 def faulty():
-    """Board files of A with the paper's three faults."""
+    """Board files of A with the scope's three faults."""
     width, tracks, pieces = channel.open_board(channel.board(A))
 
     def file(changed):

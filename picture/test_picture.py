@@ -1,4 +1,4 @@
-"""Runs ./channel picture on the examples of the paper, on wide channels and on mistakes, and reads the pictures back.
+"""Runs ./channel picture on the examples of the scope, on wide channels and on mistakes, and reads the pictures back.
 
 Usage: python3 picture/test_picture.py
 

@@ -10,7 +10,7 @@ def board(width, tracks, *pieces, count=None, spare=0):
     return head + b"".join(channel.bits([(kind, 2), (line, 10), (a, 10), (b, 10)]) for kind, line, a, b in pieces)
 
 
-# Example A of the paper: the pieces of its three nets, in the order of drawing.
+# Example A of the scope: the pieces of its three nets, in the order of drawing.
 EXAMPLE_A = [
     (TRUNK, 2, 1, 2), (BRANCH, 1, 0, 2), (CONTACT, 1, 2, 2), (BRANCH, 2, 2, 3), (CONTACT, 2, 2, 2),
     (TRUNK, 1, 2, 3), (BRANCH, 2, 0, 1), (CONTACT, 2, 1, 1), (BRANCH, 3, 1, 3), (CONTACT, 3, 1, 1),

@@ -1,11 +1,11 @@
-"""The adapter board channel, written from the owner's papers alone, by other means than the proved code where that is
+"""The adapter board channel, written from the scope alone, by other means than the proved code where that is
 natural.
 
 Rows stay as they were handed over; each number in them is asked whether it is a net or parked. Nets are kept in
 dictionaries and sets, the form of a text is a regular expression, the chain is found by removing nets from the bottom
 up, the ring with the fewest nets from the sets of nets that so many steps lead to, of all nets at once, the looks of a
 fill are summed from the tracks of its nets, the judge floods grid points layer by layer, and a table of blanks is
-compared with the set of its entries. Every function answers the paper's numbers: a refusal is
+compared with the set of its entries. Every function answers the scope's numbers: a refusal is
 `Refused(number, place)`, raised or returned.
 """
 import re

@@ -1,5 +1,5 @@
-"""Runs the five programs and `./channel make` on the bench examples A to M of the owner's papers, and on some of the
-spaces of Req 01, and compares what they write with the papers, to the letter; two of the examples on one panel (Req 09)
+"""Runs the five programs and `./channel make` on the bench examples A to M of the scope, and on some of the
+spaces of Req 01, and compares what they write with the scope, to the letter; two of the examples on one panel (Req 09)
 are as they come out by hand.
 
 Usage: python3 reference/examples.py target/bin
@@ -133,7 +133,7 @@ def main(bins):
         expect(f"panel {name}", in_folder(bins / "panel_joiner", first=first, second=second), due)
     for failure in failures:
         print(failure)
-    print(f"examples: {'all as in the paper' if not failures else f'{len(failures)} differ'}")
+    print(f"examples: {'all as in the scope' if not failures else f'{len(failures)} differ'}")
     return bool(failures)
 
 

@@ -74,7 +74,7 @@ def text_job(rng):
 
 
 def bench_job(_):
-    """The papers' examples, faults H to J of A among them, and boards with parked pins."""
+    """The scope's examples, faults H to J of A among them, and boards with parked pins."""
     yield from each(text for text, _ in examples.LISTED.values())
     width, tracks, pieces = channel.open_board(channel.board(examples.A))
     for changed in (pieces, pieces[:7] + pieces[8:], pieces[:3] + [(1, 2, 1, 3)] + pieces[4:], pieces + [(0, 2, 3, 4)]):

@@ -44,7 +44,7 @@ def shown_row(word, text):
 
 
 def numbers():
-    """What the tests work out is the paper's density: of its examples, and of lists that the other program takes."""
+    """What the tests work out is the scope's density: of its examples, and of lists that the other program takes."""
     for name, (rows, due) in EXAMPLES.items():
         check(f"{name}: counts", densities(*text_rows(rows)), due)
     for name, (top, bot, due) in REFUSED.items():

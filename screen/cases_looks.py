@@ -14,7 +14,7 @@ from pseudo_terminal import Session, check
 
 C, D = ([1, 2], [2, 1]), ([1, 2, 3, 1], [2, 3, 2, 0])
 E = ([1, 0, 1, 2, 0, 2], [0, 3, 0, 0, 3, 0])
-EXAMPLES = {"B": (B, 18, 21), "C": (C, 2, 3), "D": (D, 3, 6), "E": (E, 4, 6)}  # looks and ceiling of the paper
+EXAMPLES = {"B": (B, 18, 21), "C": (C, 2, 3), "D": (D, 3, 6), "E": (E, 4, 6)}  # looks and ceiling of the scope
 STRAIGHT, LONE = ([1, 0, 2], [1, 0, 2]), ([1, 0], [0, 0])
 PARKED = ([1, 1, 30, 4, 4], [2, 0, 0, 5, 1])  # nets 2, 5 and 30 are parked, and nobody looks at them
 CHAIN = (list(range(1, 512)) + [0], list(range(512)))  # each track takes one net, so the bar is full
@@ -30,7 +30,7 @@ def typed(s, rows):
 
 
 def numbers():
-    """The looks that the tests count are the paper's; where all nets are placed, each was looked at once a track."""
+    """The looks that the tests count are the scope's; where all nets are placed, each was looked at once a track."""
     for name, (rows, *due) in EXAMPLES.items():
         check(f"{name}: looks and ceiling", list(looks_of(rows)), due)
     for rows in (A, B, E, STRAIGHT, PARKED, CHAIN):
@@ -60,7 +60,7 @@ def bold_cells(s):
 
 
 def examples(s):
-    """The paper's examples, where no message is in the line."""
+    """The scope's examples, where no message is in the line."""
     for name, (rows, looks, ceiling) in EXAMPLES.items():
         typed(s, rows)
         s.expect_line(f"{name}: bar", MESSAGE, bar(looks, ceiling, 80))

@@ -53,7 +53,7 @@ def drawing(rows, board, pitch=None):
 
 
 def damaged():
-    """Boards of example A: good, and those of the paper's examples H, I and J."""
+    """Boards of example A: good, and those of the scope's examples H, I and J."""
     tracks, _, pieces = channel.draw(*A)
     without = [p for p in pieces if p != (2, 2, 1, 1)]
     longer = [(1, 2, 1, 3) if p == (1, 2, 2, 3) else p for p in pieces]

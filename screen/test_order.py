@@ -1,4 +1,4 @@
-"""Runs the order screen in a pseudo-terminal and through pipes, and compares what it shows with the paper.
+"""Runs the order screen in a pseudo-terminal and through pipes, and compares what it shows with the scope.
 
 Usage: python3 screen/test_order.py
 

@@ -14,9 +14,10 @@ MANUAL = (ROOT / "docs" / "MANUAL.md").read_text()
 PAGE = (ROOT / "docs" / "channel.1").read_text()
 SCOPE = (ROOT / "docs" / "SCOPE.md").read_text()
 ONLY_FROM_C = {1, 21, 22, 23}  # refusals that the commands never give
-SECTIONS_OF_01 = ("Wiring rule", "Pin list", "Spans and constraints", "Filling tracks", "Drawing", "Board file",
-                  "Judge, blanks, programs", "The shop's refusal words", "Bench examples", "Which form belongs where",
-                  "Contracts and examples")
+SECTIONS = ("Wiring rule", "Pin list", "Spans and constraints", "Filling tracks", "Drawing", "Board file",
+            "Judge, blanks, programs", "The shop's refusal words", "Bench examples", "Which form belongs where",
+            "Contracts and examples")
+CITED = re.compile(r'SCOPE[,] "([^"]+)"')
 
 
 def blocks(section):
@@ -102,10 +103,21 @@ class ManPage(unittest.TestCase):
 
 
 class Scope(unittest.TestCase):
-    def test_every_part_of_the_papers_has_its_paragraph(self):
-        for name in SECTIONS_OF_01:
-            self.assertIn(f'\n### 01, "{name}"\n\n', SCOPE)
+    def test_every_part_of_the_scope_has_its_paragraph(self):
+        for name in SECTIONS:
+            self.assertIn(f"\n### {name}\n\n", SCOPE)
         for number in (1, 2, 3):
             self.assertIn(f"\n**Demand {number}: ", SCOPE)
         for number in range(1, 15):
             self.assertIn(f"\n**Req {number:02}. ", SCOPE)
+
+    def test_every_heading_that_is_cited_stands_there(self):
+        cited = set()
+        for folder, inner, names in os.walk(ROOT):
+            inner[:] = [name for name in inner if name not in (".git", "out", "target", "__pycache__")]
+            for name in names:
+                if name.endswith((".rt", ".antt", ".edit", ".md", ".py", ".c", ".h")):
+                    cited |= set(CITED.findall(Path(folder, name).read_text()))
+        self.assertIn("Wiring rule", cited)
+        for name in cited:
+            self.assertIn(f"\n### {name}\n", SCOPE)

@@ -1,5 +1,5 @@
 -- The stock is a table that passes, and the choice among its blanks is one case of the choice among a customer's own.
-use Rattle.std.specs.Prelude.{ℕ, ◌≤◌, ◌<◌, ◌≡◌, refl, length, get_or, ltb}
+use Rattle.std.specs.Prelude.{ℕ, ◌≤◌, ◌≡◌, refl, length, get_or, ltb, nat_le, find, ok_or, Option, Some, None, Ok, Err}
 use Rattle.std.proofs.Common.{arith, sym, ◌∙◌, ap, ltb→lt, lt→ltb}
 use Rattle.std.proofs.Math.Decide.{dec_le}
 use Rattle.lists.specs.Lists.{keep, from, head_or, last_or, at}
@@ -7,14 +7,12 @@ use Rattle.lists.specs.Ends.{get_or-member}
 use Rattle.refusal.specs.declared.Refusal.TheVariants.{NoBlank, NoStock}
 use Rattle.refusal.specs.Refusals.{answered}
 use Rattle.refusal.specs.ChainLaws.{none-refuse-if, some-refuse-if, some-or-else}
-use Rattle.blanks.specs.declared.BlankAnswer.TheVariants.{Blank, Refused}
 use Rattle.blanks.specs.Stock.{stock, smallest_for, no_blank, blank_answer}
 use Rattle.blanks.specs.Laminate.{bad_entry, no_stock, own_refusal, own_answer}
 use Rattle.blanks.specs.Promise.{Passes, Chosen}
-use Rattle.blanks.specs.Code.{FirstThatHolds}
 use Rattle.blanks.specs.ChosenLaws.{smallest-holds}
 use Rattle.blanks.specs.TableLaws.{found_none}
-use Rattle.blanks.proofs.OwnLaws.{past-table, found-held, done, over, held}
+use Rattle.blanks.proofs.OwnLaws.{past-table, found-held, found-short, done, over, held}
 
 stock-length : length stock ≡ 12
 unfolding stock
@@ -55,15 +53,14 @@ one-refusal t =
 -- "The listing keeps our table": what is answered of it is what is answered of a customer's own
 pub one-case : (t : ℕ) → own_answer stock t ≡ blank_answer t
 unfolding own_answer blank_answer
-one-case t = ap (λ a. answered Refused a (Blank (smallest_for stock t))) (one-refusal t)
+one-case t = ap (λ a. answered Err a (Ok (smallest_for stock t))) (one-refusal t)
 
--- what the search through the stock has found
-module _ {t i : ℕ} (found : FirstThatHolds stock t i) where
-  pub chosen : i < 12 → Blank (get_or stock i 0) ≡ blank_answer t
-  chosen h =
-      (done stock t (held stock-passes (found-held stock stock-passes found (omega (arith, stock-length))))).answer
-      ∙ one-case t
-
-  pub none-chosen : 12 ≤ i → Refused (NoBlank t) ≡ blank_answer t
-  none-chosen h =
-      (done stock t (over (let below = found.before 11 (omega arith) in omega (arith, largest)))).answer ∙ one-case t
+-- what the search through the stock has found is what is to be answered
+pub stock-answer : (t : ℕ) → ok_or (find (nat_le t) stock) (NoBlank t) ≡ blank_answer t
+stock-answer t = go (find (nat_le t) stock) refl
+  where
+    go : (found : Option ℕ) → find (nat_le t) stock ≡ found → ok_or found (NoBlank t) ≡ blank_answer t
+    go (Some b) e = (done stock t (held stock-passes (found-held stock stock-passes e))).answer ∙ one-case t
+    go None e =
+        let below = found-short stock e (get_or stock 11 0) (get_or-member stock 11 (omega (arith, stock-length))) in
+        (done stock t (over (omega (arith, largest)))).answer ∙ one-case t

@@ -1,16 +1,15 @@
 -- The choice of a blank is told by its refusal, of the stock exactly over 512 tracks, or by the tracks of the blank, at
 -- most 512. The place of a refusal is no larger, or the tracks themselves.
-use Rattle.std.specs.Prelude.{ℕ, max, ◌≤◌, ◌<◌, ◌≡◌, List, [], ◌∷◌, ◌↔◌}
+use Rattle.std.specs.Prelude.{ℕ, max, ◌≤◌, ◌<◌, ◌≡◌, List, [], ◌∷◌, ◌↔◌, Result, Ok}
 use native.Mathlib.Omega.{arith}
 use Rattle.std.proofs.Math.Decide.{dec_le}
-use Rattle.std.proofs.Math.Path.{refl, ap}
+use Rattle.std.proofs.Math.Path.{ap}
 use Rattle.std.proofs.Common.{sym, ◌∙◌, subst}
 use borrow.Author.Tests.{lt-ltb, le-ltb}
 use Rattle.lists.specs.Lists.{head_or}
-use Rattle.refusal.specs.Refusals.{refuse_if, told_by}
-use Rattle.refusal.specs.ToldLaws.{answered-told, told-success}
-use Rattle.blanks.specs.declared.BlankAnswer.{BlankAnswer}
-use Rattle.blanks.specs.declared.BlankAnswer.TheVariants.{Blank}
+use Rattle.refusal.specs.declared.Refusal.{Refusal}
+use Rattle.refusal.specs.Refusals.{refuse_if, told_by, told}
+use Rattle.refusal.specs.ToldLaws.{told-ok_unless, told-success}
 use Rattle.blanks.specs.Stock.{stock, smallest_for, no_blank, blank_answer, blank_told}
 use Rattle.blanks.specs.Laminate.{own_refusal, own_answer}
 use Rattle.blanks.specs.Promise.{BadAt, no-count, first-bad}
@@ -21,8 +20,8 @@ use Rattle.blanks.proofs.StockLaws.{stock-passes, stock-chosen}
 
 module _ (t : ℕ) where
   pub blank-told : blank_told (blank_answer t) ≡ told_by (no_blank t) (smallest_for stock t ∷ [])
-  unfolding blank_answer blank_told
-  blank-told = answered-told blank_told _ _ _ (λ r. refl) refl (no_blank t)
+  unfolding blank_answer
+  blank-told = told-ok_unless _ (no_blank t) (smallest_for stock t)
 
   told-small : t ≤ 512 → (blank_told (blank_answer t)).number ≡ 0
   unfolding no_blank refuse_if told_by
@@ -38,8 +37,8 @@ module _ (t : ℕ) where
     told-large,
   )
 
-  pub blank-small : {b : ℕ} → blank_answer t ≡ Blank b → b ≤ 512
-  unfolding blank_told
+  pub blank-small : {b : ℕ} → blank_answer t ≡ Ok b → b ≤ 512
+  unfolding told
   blank-small {b} e = elim (dec_le t 512) [ yes h ↦ chosen h | no h ↦ absurd (none-chosen (told-large (omega arith))) ]
     where
       none-chosen : (blank_told (blank_answer t)).number ≡ 14 → ⊥
@@ -54,15 +53,15 @@ module _ (t : ℕ) where
 
 module _ (table : List ℕ) (t : ℕ) where
   pub own-told : blank_told (own_answer table t) ≡ told_by (own_refusal table t) (smallest_for table t ∷ [])
-  unfolding own_answer blank_told
-  own-told = answered-told blank_told _ _ _ (λ r. refl) refl (own_refusal table t)
+  unfolding own_answer
+  own-told = told-ok_unless _ (own_refusal table t) (smallest_for table t)
 
   place-small : {p : ℕ} → BadAt table p → p ≤ 64
   place-small (no-count h e) = omega arith
   place-small (first-bad count lowest) = let inside = lowest.holds.in_table in omega arith
 
-  value-small : {a : BlankAnswer} → Outcome table t a → value_told a ≤ max t 512
-  unfolding blank_told head_or
+  value-small : {a : Result ℕ Refusal} → Outcome table t a → value_told a ≤ max t 512
+  unfolding told head_or
   value-small (over h) = omega arith
   value-small (bad h b) = let few = place-small b in omega arith
   value-small (none-holds h passes below) = omega arith

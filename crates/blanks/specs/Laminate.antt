@@ -1,13 +1,11 @@
--- 02, Req 03: a customer's own laminate, "a table of track counts": which tables are bad, and the choice among the
+-- SCOPE, Req 03: a customer's own laminate, "a table of track counts": which tables are bad, and the choice among the
 -- entries of one that is not. The stock's table is one of them.
-use Rattle.std.specs.Prelude.{ℕ, ◌-◌, List, Bool, ◌&&◌, not, length, ltb}
+use Rattle.std.specs.Prelude.{ℕ, ◌-◌, List, Bool, ◌&&◌, not, length, ltb, Result}
 use Rattle.std.proofs.Math.Option.{Option}
 use Rattle.lists.specs.Lists.{keep, up_to, last_or, within, at}
 use Rattle.refusal.specs.declared.Refusal.{Refusal}
 use Rattle.refusal.specs.declared.Refusal.TheVariants.{BadTable, NoStock}
-use Rattle.refusal.specs.Refusals.{refuse_if, refuse_at_first, ◌or_else◌, answered}
-use Rattle.blanks.specs.declared.BlankAnswer.{BlankAnswer}
-use Rattle.blanks.specs.declared.BlankAnswer.TheVariants.{Blank, Refused}
+use Rattle.refusal.specs.Refusals.{refuse_if, refuse_at_first, ◌or_else◌, ok_unless}
 use Rattle.blanks.specs.Stock.{smallest_for, no_blank}
 
 -- "each 1 to 512, strictly rising": the entry at place i, from 1, is not 1 to 512 or not above the one before it; what
@@ -30,5 +28,5 @@ unfoldable pub own_refusal : List ℕ → ℕ → Option Refusal
 own_refusal table t = no_blank t or_else bad_table table or_else no_stock table t
 
 -- "The smallest entry that holds the layout is chosen"
-unfoldable pub own_answer : List ℕ → ℕ → BlankAnswer
-own_answer table t = answered Refused (own_refusal table t) (Blank (smallest_for table t))
+unfoldable pub own_answer : List ℕ → ℕ → Result ℕ Refusal
+own_answer table t = ok_unless (own_refusal table t) (smallest_for table t)

@@ -3,14 +3,14 @@
 use Prim.Native.Nat.{ℕ, zero, suc, ◌+◌, ◌-◌, ◌≤◌, ◌<◌}
 use Rattle.std.proofs.Common.{arith, inl, inr, lt→ltb}
 use Rattle.std.proofs.Math.Decide.{dec_le}
-use Rattle.std.specs.Prelude.{◌≡◌, List, ◌↔◌, ◌⊎◌, Bool, ◌&&◌, length, get_or, ltb}
-use Rattle.std.proofs.Math.Path.{sym, ap}
+use Rattle.std.specs.Prelude.{◌≡◌, List, ◌↔◌, ◌⊎◌, Bool, ◌&&◌, length, get_or, ltb, find, Some, None}
+use Rattle.std.proofs.Math.Path.{ap}
 use Rattle.std.proofs.Math.Logic.{⊎_elim}
 use Rattle.std.proofs.Math.Dec.{T, ltb→lt}
-use Rattle.lists.specs.Lists.{head_or, within, at}
+use Rattle.lists.specs.Lists.{up_to, within, at}
 use Rattle.lists.specs.Tests.{and_left, and_right, and_both, not-passes, not-fails, passes?, within→, →within}
 use Rattle.lists.specs.Firsts.{Passing}
-use Rattle.lists.specs.Tallies.{first_of, first-at, none-at}
+use Rattle.lists.specs.Finds.{scan-found, scan-none}
 use Rattle.lists.specs.Ends.{at_suc, at-inside, member-at, get_or-member, neighbours→rising, rising→neighbours}
 use Rattle.blanks.specs.Laminate.{bad_entry}
 use Rattle.blanks.specs.Promise.{Passes, BadEntry}
@@ -133,14 +133,11 @@ module _ (table : List ℕ) where
   SoundBefore i = (k : ℕ) → k < i → Sound table k
 
   pub bad-found : (i : ℕ) → i < length table → SoundBefore i → (Sound table i → ⊥)
-      → i + 1 ≡ first_of (bad_entry table) (length table)
+      → Some (i + 1) ≡ find (bad_entry table) (up_to (length table))
   bad-found i l before bad =
-      sym (first-at (bad_entry table) (length table) (λ k. T (bad_entry table (suc k))) (λ k m t. t) i l
+      scan-found (bad_entry table) (length table) i l
       (⊎_elim (λ t. t) (λ f. absurd (bad (→sound table i f))) (passes? (bad_entry table (suc i))))
-      (λ k m. sound→ table k (before k m)))
+      (λ k m. sound→ table k (before k m))
 
-  pub none-bad : SoundBefore (length table) → 0 ≡ first_of (bad_entry table) (length table)
-  unfolding head_or
-  none-bad all =
-      sym (ap (head_or 0) (none-at (bad_entry table) (length table) (λ k. T (bad_entry table (suc k))) (λ k m t. t)
-      (λ k m. sound→ table k (all k m))))
+  pub none-bad : SoundBefore (length table) → None ≡ find (bad_entry table) (up_to (length table))
+  none-bad all = scan-none (bad_entry table) (length table) (λ k m. sound→ table k (all k m))

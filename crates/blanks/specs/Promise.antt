@@ -1,5 +1,5 @@
--- 02, Req 03, as it is meant: tables that pass, the first bad entry of the others, the smallest entry that holds t; and
--- what is promised of the answer.
+-- SCOPE, Req 03, as it is meant: tables that pass, the first bad entry of the others, the smallest entry that holds t;
+-- and what is promised of the answer.
 use Rattle.std.specs.Prelude.{ℕ, ◌-◌, ◌≤◌, ◌<◌, ◌≡◌, ◌↔◌, ◌⊎◌, length}
 use mathlib.Core.List.{List, Memᴰ}
 use Rattle.lists.specs.Lists.{at, Lowest}

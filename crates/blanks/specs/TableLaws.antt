@@ -1,16 +1,16 @@
 -- Refusal 15 names the one place of a bad table, and is silent exactly of a table that passes.
-use Rattle.std.specs.Prelude.{ℕ, suc, ◌≤◌, ◌<◌, ◌≡◌, List, ◌⊎◌, not, length, T}
-use Rattle.std.proofs.Common.{arith, sym, ◌∙◌, subst, ⊎_elim}
+use Rattle.std.specs.Prelude.{ℕ, suc, ◌≤◌, ◌<◌, ◌≡◌, List, ◌⊎◌, not, length, find, Some, None, T}
+use Rattle.std.proofs.Common.{arith, sym, ◌∙◌, ⊎_elim}
 use Rattle.std.proofs.Math.Path.{ap}
 use Rattle.std.proofs.Math.Option.{none, some, some-ne-none, some-injective}
-use Rattle.lists.specs.Lists.{keep, up_to, within, Lowest}
+use Rattle.lists.specs.Lists.{keep, up_to, within}
 use Rattle.lists.specs.Tests.{not-passes, not-fails, within→, →within}
-use Rattle.lists.specs.Firsts.{Passing, lowest-same}
-use Rattle.lists.specs.Tallies.{first_of, first-is, is-first, none_first}
+use Rattle.lists.specs.Firsts.{lowest-same}
+use Rattle.lists.specs.Finds.{lowest-found, found-lowest, none-found}
 use Rattle.refusal.specs.declared.Refusal.TheVariants.{BadTable}
 use Rattle.refusal.specs.Refusals.{place_of, refuse_at_first}
 use Rattle.refusal.specs.ChainLaws.{none-refuse-if, some-refuse-if, none-or-else-later, some-or-else}
-use Rattle.refusal.specs.ChainLaws.{refuse-none, refuse-first}
+use Rattle.refusal.specs.ChainLaws.{refuse-found, refuse-not-found}
 use Rattle.blanks.specs.Laminate.{bad_entry, bad_table}
 use Rattle.blanks.specs.Promise.{Passes, BadAt, no-count, first-bad}
 use Rattle.blanks.specs.LaminateLaws.{→sound, passes→sound, sound→passes, test-exactly, none-bad}
@@ -35,16 +35,14 @@ module _ (table : List ℕ) where
   refused-bad (no-count h e) =
       some-or-else _ _ (BadTable _)
       (rw e (some-refuse-if (not (within 1 (length table) 64)) (BadTable 0) (uncounted h)))
-  refused-bad {p} (first-bad count lowest) =
-      let found = first-is (bad_entry table) (length table) p ((lowest-same (test-exactly table) p).1 lowest) in
-      let inside = lowest.holds.in_table in
-      past-count count ∙ (refuse-first BadTable (bad_entry table) (length table) (λ z. omega arith)
-      ∙ ap (λ (k : ℕ). some (BadTable k)) found)
+  refused-bad (first-bad count lowest) =
+      past-count count ∙ refuse-found BadTable (bad_entry table) (up_to (length table))
+      (sym (lowest-found (bad_entry table) (length table) ((lowest-same (test-exactly table) _).1 lowest)))
 
   pub not-bad : Passes table → bad_table table ≡ none
   not-bad passes =
       past-count passes.count
-      ∙ refuse-none BadTable (bad_entry table) (length table) (sym (none-bad table (passes→sound table passes)))
+      ∙ refuse-not-found BadTable (bad_entry table) (up_to (length table)) (sym (none-bad table (passes→sound table passes)))
 
   -- so no place is bad in a table that passes, and no two are named in another
   pub good-bad : Passes table → {p : ℕ} → BadAt table p → ⊥
@@ -55,13 +53,11 @@ module _ (table : List ℕ) where
 
   -- what the search for a bad entry has found
   module _ (count : (1 ≤ length table) × (length table ≤ 64)) where
-    pub found-bad : {p : ℕ} → p ≡ first_of (bad_entry table) (length table) → (p ≡ 0 → ⊥) → BadAt table p
-    found-bad {p} e there =
-        let lowest = is-first (bad_entry table) (length table) (λ z. there (e ∙ z)) in
-        first-bad count ((lowest-same (test-exactly table) p).0
-        (subst (Lowest (Passing (bad_entry table) 1 (length table))) (sym e) lowest))
+    pub found-bad : {p : ℕ} → find (bad_entry table) (up_to (length table)) ≡ Some p → BadAt table p
+    found-bad e =
+        first-bad count ((lowest-same (test-exactly table) _).0 (found-lowest (bad_entry table) (length table) e))
 
-    pub found_none : 0 ≡ first_of (bad_entry table) (length table) → Passes table
+    pub found_none : find (bad_entry table) (up_to (length table)) ≡ None → Passes table
     found_none e =
-        sound→passes table count (λ i l. →sound table i (λ w. none_first (bad_entry table) (length table) (sym e) (suc i)
+        sound→passes table count (λ i l. →sound table i (λ w. none-found (bad_entry table) (length table) e (suc i)
         (record { low = omega arith; high = omega arith; passes = w })))

@@ -1,10 +1,9 @@
 // A customer's own laminate: a table of blanks that is checked at each choice.
-ghost use Rattle.std.specs.Prelude.{◌≡◌, length};
-ghost use Rattle.lists.specs.Tallies.{first_of};
+ghost use Rattle.std.specs.Prelude.{◌≡◌, length, find};
+ghost use Rattle.lists.specs.Lists.{up_to};
 ghost use Rattle.blanks.specs.Laminate.{bad_entry};
 ghost use Rattle.blanks.specs.Code.{OwnDone};
 
-use crate::BlankAnswer;
 use crate::search::first_that_holds;
 use refusal::Refusal;
 
@@ -13,40 +12,32 @@ const MOST_ENTRIES: usize = 64;
 
 const MOST_TRACKS: u32 = 512;
 
-// The place, from 1, of the first entry that is not 1 to 512 or not above the entry before it; 0 if there is none.
-fn first_bad(table: &[u32]) -> usize
-    ensures { result ≡ first_of (bad_entry table.now) (length table.now) }
+// The place, from 1, of the first entry that is not 1 to 512 or not above the entry before it.
+fn first_bad(table: &[u32]) -> Option<usize>
+    ensures { result ≡ find (bad_entry table.now) (up_to (length table.now)) }
 {
-    let mut i: usize = 0;
     let mut before: u32 = 0;
-    while i < table.len() {
-        let entry = table[i];
-        i += 1;
+    for (i, &entry) in table.iter().enumerate() {
         if entry <= before || MOST_TRACKS < entry {
-            return i;
+            return Some(i + 1);
         }
         before = entry;
     }
-    0
+    None
 }
 
 // The smallest entry of a table that holds a number of tracks; or refusals 14, 15 and 16, in that order.
-pub fn own_blank(table: &[u32], tracks: u32) -> BlankAnswer
+pub fn own_blank(table: &[u32], tracks: u32) -> Result<u32, Refusal>
     ensures { OwnDone table.now tracks result }
 {
     if MOST_TRACKS < tracks {
-        return BlankAnswer::Refused(Refusal::NoBlank(tracks as usize));
+        return Err(Refusal::NoBlank(tracks as usize));
     }
-    if table.len() == 0 || MOST_ENTRIES < table.len() {
-        return BlankAnswer::Refused(Refusal::BadTable(0));
+    if table.is_empty() || MOST_ENTRIES < table.len() {
+        return Err(Refusal::BadTable(0));
     }
-    let bad = first_bad(table);
-    if bad != 0 {
-        return BlankAnswer::Refused(Refusal::BadTable(bad));
+    if let Some(place) = first_bad(table) {
+        return Err(Refusal::BadTable(place));
     }
-    let i = first_that_holds(table, tracks);
-    if i == table.len() {
-        return BlankAnswer::Refused(Refusal::NoStock(tracks as usize));
-    }
-    BlankAnswer::Blank(table[i])
+    first_that_holds(table, tracks).ok_or(Refusal::NoStock(tracks as usize))
 }

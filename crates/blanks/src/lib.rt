@@ -11,24 +11,12 @@ pub use laminate::own_blank;
 use refusal::Refusal;
 use search::first_that_holds;
 
-// What the choice of a blank answers.
-#[derive(Clone, Copy)]
-pub enum BlankAnswer {
-    // the tracks that the chosen blank holds
-    Blank(u32),
-    Refused(Refusal),
-}
-
 // The tracks that each stock blank holds, rising.
 const STOCK: [u32; 12] = [8, 12, 16, 24, 32, 48, 64, 96, 128, 192, 256, 512];
 
 // The smallest stock blank that holds a number of tracks.
-pub fn blank(tracks: u32) -> BlankAnswer
+pub fn blank(tracks: u32) -> Result<u32, Refusal>
     ensures { result ≡ blank_answer tracks }
 {
-    let i = first_that_holds(&STOCK, tracks);
-    if i < 12 {
-        return BlankAnswer::Blank(STOCK[i]);
-    }
-    BlankAnswer::Refused(Refusal::NoBlank(tracks as usize))
+    first_that_holds(&STOCK, tracks).ok_or(Refusal::NoBlank(tracks as usize))
 }

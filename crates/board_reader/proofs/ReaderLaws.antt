@@ -1,6 +1,6 @@
 -- A reader opened over a file that opens answers each piece of its layout under its number, counted from 1; under every
 -- other number, and under any number of bytes that do not open, it refuses.
-use Rattle.std.specs.Prelude.{ℕ, zero, suc, ◌≤◌, ◌<◌, ◌≡◌, refl, List, ◌⊎◌, leb}
+use Rattle.std.specs.Prelude.{ℕ, zero, suc, ◌≤◌, ◌<◌, ◌≡◌, refl, List, ◌⊎◌, leb, Ok, Err}
 use Rattle.std.proofs.Common.{arith, sym, ◌∙◌, inl, inr, ⊎_elim, leb→le, le→leb}
 use Rattle.std.proofs.Math.Option.{none, some}
 use Rattle.std.proofs.Math.ListN.{get_elem?}
@@ -10,7 +10,6 @@ use Rattle.refusal.specs.declared.Refusal.{Refusal}
 use Rattle.refusal.specs.declared.Refusal.TheVariants.{BadField}
 use Rattle.refusal.specs.Refusals.{answered}
 use Rattle.grid.specs.declared.Piece.{Piece}
-use Rattle.boardfile.specs.declared.PieceAnswer.TheVariants.{Found, Refused}
 use Rattle.boardfile.specs.Open.{file_count, file_layout, open_refusal, open_answer, piece_answer}
 use Rattle.boardfile.specs.Reading.{piece-numbered, no-piece-numbered}
 use Rattle.board_reader.specs.Reader.{count_in, reader_count, reader_piece, read_answer}
@@ -25,7 +24,7 @@ unfolding reader_count count_in open_answer answered
 refused-count bs r h = rw (h, answered, count_in)
 
 -- a number outside of the count is refused with that number
-pub outside : (bs : List ℕ) (count n : ℕ) → ((n ≡ 0) ⊎ (count < n)) → reader_piece bs count n ≡ Refused (BadField n)
+pub outside : (bs : List ℕ) (count n : ℕ) → ((n ≡ 0) ⊎ (count < n)) → reader_piece bs count n ≡ Err (BadField n)
 unfolding reader_piece
 outside bs count n h =
     rw (fails→false (within 1 n count) (λ t. let w = within→ 1 n count t in let low = w.0 in let high = w.1 in
@@ -52,15 +51,15 @@ as-filed bs h n =
 
 -- the n-th piece of a file that opens
 pub reads : (bs : List ℕ) → open_refusal bs ≡ none → (n : ℕ) (p : Piece) → get_elem? (file_layout bs).pieces n ≡ some p
-    → read_answer bs (suc n) ≡ Found p
+    → read_answer bs (suc n) ≡ Ok p
 reads bs h n p at = rw (opened-count bs h) (as-filed bs h (suc n) ∙ piece-numbered bs h n p at)
 
 -- every other number, and bytes that do not open
-pub reads-no-other : (bs : List ℕ) (n : ℕ) → ((n ≡ 0) ⊎ (reader_count bs < n)) → read_answer bs n ≡ Refused (BadField n)
+pub reads-no-other : (bs : List ℕ) (n : ℕ) → ((n ≡ 0) ⊎ (reader_count bs < n)) → read_answer bs n ≡ Err (BadField n)
 reads-no-other bs n h = outside bs (reader_count bs) n h
 
 pub reads-none-refused : (bs : List ℕ) (r : Refusal) → open_refusal bs ≡ some r → (n : ℕ)
-    → read_answer bs n ≡ Refused (BadField n)
+    → read_answer bs n ≡ Err (BadField n)
 reads-none-refused bs r h n =
     rw (refused-count bs r h) (outside bs 0 n (⊎_elim (λ out. out) (λ w. let low = w.0 in inr (omega arith))
     (outside-or-inside 0 n)))

@@ -5,7 +5,8 @@ ghost use Rattle.std.specs.Prelude.{◌≡◌};
 ghost use Rattle.boardfile.specs.Open.{open_answer};
 ghost use Rattle.board_reader.specs.Reader.{reader_count, reader_piece, read_answer};
 
-use boardfile::{OpenAnswer, PieceAnswer};
+use boardfile::Board;
+use grid::Piece;
 use refusal::Refusal;
 
 // A reader: the board's bytes, and how many pieces it answers.
@@ -19,22 +20,15 @@ pub struct BoardReader<'a> {
 fn count_of(board: &[u8]) -> usize
     ensures { result ≡ reader_count board.now }
 {
-    match boardfile::open(board) {
-        OpenAnswer::Board {
-            width: _,
-            tracks: _,
-            count,
-        } => count as usize,
-        OpenAnswer::Refused(_) => 0,
-    }
+    boardfile::open(board).map_or(0, |opened| opened.count as usize)
 }
 
 // The piece of a number, where `count` pieces are answered.
-fn piece_within(board: &[u8], count: usize, number: usize) -> PieceAnswer
+fn piece_within(board: &[u8], count: usize, number: usize) -> Result<Piece, Refusal>
     ensures { result ≡ reader_piece board.now count number }
 {
     if number < 1 || count < number {
-        return PieceAnswer::Refused(Refusal::BadField(number));
+        return Err(Refusal::BadField(number));
     }
     boardfile::piece_at(board, number)
 }
@@ -50,14 +44,14 @@ pub fn over<'a>(board: &'a [u8]) -> BoardReader<'a>
 
 impl<'a> BoardReader<'a> {
     // What opening answers: width, tracks and count, or 8 or 9.
-    pub fn opening(self) -> OpenAnswer
+    pub fn opening(self) -> Result<Board, Refusal>
         ensures { result ≡ open_answer self.entry.board.now }
     {
         boardfile::open(self.board)
     }
 
     // The piece of a number, from 1; another number gives 9 with that number as place.
-    pub fn piece(self, number: usize) -> PieceAnswer
+    pub fn piece(self, number: usize) -> Result<Piece, Refusal>
         ensures { result ≡ reader_piece self.entry.board.now self.entry.count number }
     {
         piece_within(self.board, self.count, number)
@@ -65,14 +59,14 @@ impl<'a> BoardReader<'a> {
 }
 
 // Opens a board file: the reader's opening, for callers that hold no reader.
-pub fn open(board: &[u8]) -> OpenAnswer
+pub fn open(board: &[u8]) -> Result<Board, Refusal>
     ensures { result ≡ open_answer board.now }
 {
     over(board).opening()
 }
 
 // The piece of a number of a board file: of a reader opened over it, for callers that hold no reader.
-pub fn read_piece(board: &[u8], number: usize) -> PieceAnswer
+pub fn read_piece(board: &[u8], number: usize) -> Result<Piece, Refusal>
     ensures { result ≡ read_answer board.now number }
 {
     over(board).piece(number)
@@ -92,9 +86,9 @@ mod tests {
     #[test]
     fn a_reader_answers_more_than_once(rt: HostRuntime) {
         let reader = over(&BOARD);
-        assert!(rt; matches!(reader.piece(1), PieceAnswer::Found(_)));
-        assert!(rt; matches!(reader.piece(11), PieceAnswer::Found(_)));
-        assert!(rt; matches!(reader.piece(12), PieceAnswer::Refused(_)));
-        assert!(rt; matches!(reader.opening(), OpenAnswer::Board { count: 11, .. }));
+        assert!(rt; reader.piece(1).is_ok());
+        assert!(rt; reader.piece(11).is_ok());
+        assert!(rt; reader.piece(12).is_err());
+        assert!(rt; reader.opening().is_ok_and(|opened| opened.count == 11));
     }
 }

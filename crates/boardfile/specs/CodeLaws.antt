@@ -1,51 +1,22 @@
 -- What the code learns on its way, turned into the answers: the first bad piece from the pieces passed, and the answer
 -- of opening from the header and the tests on it.
-use Rattle.std.specs.Prelude.{ℕ, ◌+◌, ◌*◌, ◌≤◌, ◌<◌, ◌≡◌, List, [], ◌∷◌, ◌⊎◌, Bool, true, false, not, ◌||◌, length, T, eqb}
+use Rattle.std.specs.Prelude.{ℕ, ◌+◌, ◌*◌, ◌≤◌, ◌<◌, ◌≡◌, List, ◌⊎◌, Bool, true, false, not, ◌||◌, length, T, eqb, find, Option, Some, None, Ok, Err}
 use Rattle.std.proofs.Common.{arith, sym, inl, inr}
-use Rattle.std.proofs.Math.Path.{refl, ap}
+use Rattle.std.proofs.Math.Path.{ap}
 use Rattle.std.proofs.Math.Logic.{⊎_elim}
-use Rattle.std.proofs.Math.Option.{some}
+use Rattle.std.proofs.Math.Decide.{dec_le}
 use borrow.Author.Tests.{lt-ltb, le-ltb, le-leb, lt-leb, eq-eqb, ne_eqb}
-use Rattle.lists.specs.Lists.{keep, up_to, within, head_or}
-use Rattle.lists.specs.Firsts.{Passing, FirstKept, no_one, begins, first-kept}
-use Rattle.lists.specs.Tests.{true→T, T→true, false→fails, not-passes, not-fails, or_right, passes?, equal?}
+use Rattle.lists.specs.Lists.{up_to, within}
+use Rattle.lists.specs.Finds.{lowest-found, found-none, none-found}
+use Rattle.lists.specs.Tests.{true→T, T→true, false→fails, not-passes, not-fails, or_right, passes?}
 use Rattle.refusal.specs.declared.Refusal.TheVariants.{Torn, BadField}
-use Rattle.refusal.specs.Refusals.{refuse_if, refuse_at_first, ◌or_else◌, answered}
-use Rattle.refusal.specs.ChainLaws.{answered-none}
-use Rattle.boardfile.specs.declared.OpenAnswer.TheVariants as opening
+use Rattle.refusal.specs.Refusals.{refuse_if, ◌or_else◌, answered}
+use Rattle.refusal.specs.ChainLaws.{answered-none, refuse-found}
 use Rattle.boardfile.specs.declared.Header.{Header}
 use Rattle.boardfile.specs.Open.{word_at, header_of, file_width, file_tracks, file_count, file_spare}
 use Rattle.boardfile.specs.Open.{word_right, torn, bad_field, open_refusal, open_answer}
-use Rattle.boardfile.specs.Code.{first_bad}
+use Rattle.boardfile.specs.Code.{wrong_piece}
 use Rattle.boardfile.specs.FieldLaws.{header-small, Opened, opens}
-
-module _ (f : ℕ → Bool) (n : ℕ) where
-  -- i passes and none before it does, so it is the first
-  first-is : (i : ℕ) {ps : List ℕ} → Passing f 1 n i → ((k : ℕ) → k < i → 1 ≤ k → T (f k) → ⊥)
-      → FirstKept f 1 n ps → head_or 0 ps ≡ i
-  unfolding head_or
-  first-is i h before (no_one none) = absurd (none i h)
-  first-is i h before (begins p least) =
-      let l = least.lowest i h in
-      let low = least.holds.low in
-      ⊎_elim (λ e. e) (λ apart. absurd (before p (omega (arith, apart)) low least.holds.passes)) (equal? p i)
-
-  none_first : {ps : List ℕ} → ((k : ℕ) → Passing f 1 n k → ⊥) → FirstKept f 1 n ps → head_or 0 ps ≡ 0
-  unfolding head_or
-  none_first none (no_one h) = refl
-  none_first none (begins p least) = absurd (none p least.holds)
-
-  -- no first one: none passes
-  no-first : {ps : List ℕ} → head_or 0 ps ≡ 0 → FirstKept f 1 n ps → (k : ℕ) → Passing f 1 n k → ⊥
-  unfolding head_or
-  no-first e (no_one h) = h
-  no-first e (begins p least) = let low = least.holds.low in absurd (omega arith)
-
--- a place is refused exactly if there is a first one
-refused-at-first : (ps : List ℕ) → (head_or 0 ps ≡ 0 → ⊥) → refuse_at_first BadField ps ≡ some (BadField (head_or 0 ps))
-unfolding head_or refuse_at_first
-refused-at-first [] h = absurd (h refl)
-refused-at-first (p ∷ ps) h = refl
 
 header-wrong : (w spare : ℕ) → ((w < 1) ⊎ ((512 < w) ⊎ (spare ≡ 1))) → (not (within 1 w 512) || eqb spare 1) ≡ true
 header-wrong w spare (inl low) = rw (lt-leb 1 w low)
@@ -59,33 +30,34 @@ module _ (bs : List ℕ) (w t n : ℕ) where
   abbrev right : ℕ → Bool
   right i = word_right w t (word_at bs (4 * i))
 
-  abbrev wrong : ℕ → Bool
-  wrong i = not (right i)
-
   abbrev pub RightBelow : ℕ → Type 0
   RightBelow i = (k : ℕ) → k < i → 1 ≤ k → right k ≡ true
 
-  pub first-bad-at : (i : ℕ) → 1 ≤ i → i ≤ n → RightBelow i → right i ≡ false → first_bad bs w t n ≡ i
-  unfolding first_bad
+  pub first-bad-at : (i : ℕ) → 1 ≤ i → i ≤ n → RightBelow i → right i ≡ false
+      → Some i ≡ find (wrong_piece bs w t) (up_to n)
   first-bad-at i low high before bad =
-      let here = not-passes (right i) (false→fails (right i) bad) in
-      first-is wrong n i (record { low = low; high = omega arith; passes = here })
-      (λ k l m p. not-fails (right k) p (true→T (right k) (before k l m))) (first-kept wrong 1 n)
+      lowest-found (wrong_piece bs w t) n (record {
+        holds = record {
+          low = low;
+          high = omega arith;
+          passes = not-passes (right i) (false→fails (right i) bad);
+        };
+        lowest = λ k p. elim (dec_le i k) [
+          | yes h ↦ h
+          | no h ↦ absurd (not-fails (right k) p.passes (true→T (right k) (before k (omega arith) p.low)))
+        ];
+      })
 
-  pub none-bad : RightBelow (n + 1) → first_bad bs w t n ≡ 0
-  unfolding first_bad
+  pub none-bad : RightBelow (n + 1) → None ≡ find (wrong_piece bs w t) (up_to n)
   none-bad all =
-      none_first wrong n
-      (λ k p. let low = p.low in let high = p.high in
-      not-fails (right k) p.passes (true→T (right k) (all k (omega arith) low)))
-      (first-kept wrong 1 n)
+      found-none (wrong_piece bs w t) n (λ k p. let high = p.high in
+      not-fails (right k) p.passes (true→T (right k) (all k (omega arith) p.low)))
 
   -- where there is no first bad piece, every piece is right
-  all_right : first_bad bs w t n ≡ 0 → (i : ℕ) → 1 ≤ i → i ≤ n → T (right i)
-  unfolding first_bad
+  all_right : None ≡ find (wrong_piece bs w t) (up_to n) → (i : ℕ) → 1 ≤ i → i ≤ n → T (right i)
   all_right e i low high =
       ⊎_elim (λ p. p)
-      (λ p. absurd (no-first wrong n e (first-kept wrong 1 n) i
+      (λ p. absurd (none-found (wrong_piece bs w t) n (sym e) i
       (record { low = low; high = omega arith; passes = not-passes (right i) p })))
       (passes? (right i))
 
@@ -111,14 +83,14 @@ module _ (bs : List ℕ) (h : Header) (head : h ≡ header_of (word_at bs 0)) wh
   small = rw head (header-small (word_at bs 0))
 
   pub open-torn : 4 ≤ length bs → (length bs ≡ 4 + 4 * h.count → ⊥)
-      → open_answer bs ≡ opening.Refused (Torn (4 + 4 * h.count))
+      → open_answer bs ≡ Err (Torn (4 + 4 * h.count))
   unfolding open_answer open_refusal torn refuse_if ◌or_else◌ answered
   open-torn long other = rw (count-is, le-ltb (length bs) 4 long, ne_eqb (length bs) (4 + 4 * h.count) other)
 
   -- the length is right: opening goes on to the fields
   module _ (due : length bs ≡ 4 + 4 * h.count) where
     pub open-header : ((h.width < 1) ⊎ ((512 < h.width) ⊎ (h.spare ≡ 1)))
-        → open_answer bs ≡ opening.Refused (BadField 0)
+        → open_answer bs ≡ Err (BadField 0)
     unfolding open_answer open_refusal torn bad_field refuse_if ◌or_else◌ answered
     open-header bad =
         rw (
@@ -131,12 +103,12 @@ module _ (bs : List ℕ) (h : Header) (head : h ≡ header_of (word_at bs 0)) wh
         )
 
     module _ (low : 1 ≤ h.width) (high : h.width ≤ 512) (unset : h.spare ≡ 1 → ⊥) where
-      abbrev pub bad : ℕ
-      bad = first_bad bs h.width h.tracks h.count
+      abbrev bad : Option ℕ
+      bad = find (wrong_piece bs h.width h.tracks) (up_to h.count)
 
-      pub open-piece : (bad ≡ 0 → ⊥) → open_answer bs ≡ opening.Refused (BadField bad)
-      unfolding open_answer open_refusal torn bad_field refuse_if ◌or_else◌ answered first_bad
-      open-piece there =
+      pub open-piece : {p : ℕ} → Some p ≡ bad → open_answer bs ≡ Err (BadField p)
+      unfolding open_answer open_refusal torn bad_field refuse_if ◌or_else◌ answered
+      open-piece {p} e =
           rw (
             count-is,
             width_is,
@@ -147,10 +119,11 @@ module _ (bs : List ℕ) (h : Header) (head : h ≡ header_of (word_at bs 0)) wh
             le-leb 1 h.width low,
             le-leb h.width 512 high,
             ne_eqb h.spare 1 unset,
-            refused-at-first (keep (wrong bs h.width h.tracks h.count) (up_to h.count)) there,
+            refuse-found BadField (wrong_piece bs h.width h.tracks) (up_to h.count) (sym e),
           )
 
-      pub open-whole : bad ≡ 0 → open_answer bs ≡ opening.Board h.width h.tracks h.count
+      pub open-whole : None ≡ bad
+          → open_answer bs ≡ Ok (record { width = h.width; tracks = h.tracks; count = h.count })
       unfolding open_answer
       open-whole none =
           let s = small.2 in
@@ -162,10 +135,8 @@ module _ (bs : List ℕ) (h : Header) (head : h ≡ header_of (word_at bs 0)) wh
             spare = rw spare-is (omega arith);
             right = rw (count-is, width_is, tracks-is) (all_right bs h.width h.tracks h.count none);
           } in
-          rw (count-is, width_is, tracks-is)
-          (answered-none opening.Refused (open_refusal bs) (opening.Board h.width h.tracks h.count)
-          (opens bs o))
+          rw (count-is, width_is, tracks-is) (answered-none Err (open_refusal bs) _ (opens bs o))
 
-pub open-short : (bs : List ℕ) → length bs < 4 → open_answer bs ≡ opening.Refused (Torn 4)
+pub open-short : (bs : List ℕ) → length bs < 4 → open_answer bs ≡ Err (Torn 4)
 unfolding open_answer open_refusal torn refuse_if ◌or_else◌ answered
 open-short bs h = rw (lt-ltb (length bs) 4 h)

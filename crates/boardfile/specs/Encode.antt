@@ -1,4 +1,4 @@
--- 01, "Board file": the bytes of a layout. "Bit-packed, most significant bit first."
+-- SCOPE, "Board file": the bytes of a layout. "Bit-packed, most significant bit first."
 use Rattle.std.specs.Prelude.{ℕ, ◌+◌, ◌*◌, ◌/◌, ◌%◌, List, [], ◌∷◌, ◌++◌, length}
 use Rattle.lists.specs.Lists.{each}
 use Rattle.grid.specs.declared.Piece.{Piece}

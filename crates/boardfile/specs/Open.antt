@@ -1,20 +1,17 @@
--- 01, "Board file": what opening a board file of any bytes answers, and what the reader answers to the number of a
+-- SCOPE, "Board file": what opening a board file of any bytes answers, and what the reader answers to the number of a
 -- piece.
-use Rattle.std.specs.Prelude.{ℕ, zero, suc, ◌+◌, ◌*◌, ◌/◌, ◌%◌, List, [], ◌∷◌, Bool, cond, ◌&&◌, ◌||◌, not, length, get_or, leb, ltb, eqb}
+use Rattle.std.specs.Prelude.{ℕ, zero, suc, ◌+◌, ◌*◌, ◌/◌, ◌%◌, List, [], ◌∷◌, Bool, cond, ◌&&◌, ◌||◌, not, length, get_or, leb, ltb, eqb, Result, Ok, Err}
 use Rattle.std.proofs.Math.Option.{Option}
 use Rattle.lists.specs.Lists.{keep, up_to, within}
 use Rattle.refusal.specs.declared.Refusal.{Refusal}
 use Rattle.refusal.specs.declared.Refusal.TheVariants.{Torn, BadField}
-use Rattle.refusal.specs.Refusals.{Told, told_refusal, told_values, refuse_if, refuse_at_first, ◌or_else◌, answered}
+use Rattle.refusal.specs.Refusals.{Told, refuse_if, refuse_at_first, ◌or_else◌, ok_unless, told}
 use Rattle.grid.specs.declared.Piece.{Piece}
 use Rattle.grid.specs.Pieces.{kind_of, Layout}
 use Rattle.grid.specs.Words.{line_of, from_of, to_of, fields_right, make_piece}
 use Rattle.boardfile.specs.declared.Header.{Header}
+use Rattle.boardfile.specs.declared.Board.{Board}
 use Rattle.boardfile.specs.declared.Fields.{Fields}
-use Rattle.boardfile.specs.declared.OpenAnswer.{OpenAnswer}
-use Rattle.boardfile.specs.declared.OpenAnswer.TheVariants as opening
-use Rattle.boardfile.specs.declared.PieceAnswer.{PieceAnswer}
-use Rattle.boardfile.specs.declared.PieceAnswer.TheVariants as reading
 
 -- the 32 bits that begin at byte i of the file
 unfoldable pub word_at : List ℕ → ℕ → ℕ
@@ -73,23 +70,25 @@ pieces_from bs i (suc n) = piece_of (word_at bs i) ∷ pieces_from bs (i + 4) n
 unfoldable pub file_layout : List ℕ → Layout
 file_layout bs = record { tracks = file_tracks bs; pieces = pieces_from bs 4 (file_count bs) }
 
-unfoldable pub open_answer : List ℕ → OpenAnswer
-open_answer bs = answered opening.Refused (open_refusal bs) (opening.Board (file_width bs) (file_tracks bs) (file_count bs))
+-- the fields of a board file that opens
+abbrev pub board_of : List ℕ → Board
+board_of bs = record { width = file_width bs; tracks = file_tracks bs; count = file_count bs }
 
-unfoldable pub open_told : OpenAnswer → Told
-open_told (opening.Board w t n) = told_values (w ∷ t ∷ n ∷ [])
-open_told (opening.Refused r) = told_refusal r
+unfoldable pub open_answer : List ℕ → Result Board Refusal
+open_answer bs = ok_unless (open_refusal bs) (board_of bs)
+
+abbrev pub open_told : Result Board Refusal → Told
+open_told = told (λ o. o.width ∷ o.tracks ∷ o.count ∷ [])
 
 -- "answers the piece of a given number .. pieces count from 1, and another number gives 9 with that number as place".
 -- Bytes that do not open may lack the piece's word or have a bad one: that is no piece of that number either
-unfoldable pub piece_answer : List ℕ → ℕ → PieceAnswer
+unfoldable pub piece_answer : List ℕ → ℕ → Result Piece Refusal
 piece_answer bs n =
     cond
     (within 1 n (file_count bs)
     && (leb (4 * n + 4) (length bs) && word_right (file_width bs) (file_tracks bs) (word_at bs (4 * n))))
-    (reading.Found (piece_of (word_at bs (4 * n))))
-    (reading.Refused (BadField n))
+    (Ok (piece_of (word_at bs (4 * n))))
+    (Err (BadField n))
 
-unfoldable pub piece_told : PieceAnswer → Told
-piece_told (reading.Found p) = told_values (kind_of p ∷ line_of p ∷ from_of p ∷ to_of p ∷ [])
-piece_told (reading.Refused r) = told_refusal r
+abbrev pub piece_told : Result Piece Refusal → Told
+piece_told = told (λ p. kind_of p ∷ line_of p ∷ from_of p ∷ to_of p ∷ [])

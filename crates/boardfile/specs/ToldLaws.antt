@@ -1,15 +1,14 @@
 -- Opening a board file is told by its refusal, or by the header's fields; a piece is told by its fields where it is
 -- readable, and by 9 and its number where it is not.
-use Rattle.std.specs.Prelude.{ℕ, zero, suc, ◌+◌, ◌*◌, ◌<◌, ◌≡◌, refl, List, [], ◌∷◌, Bool, true, false, cond, ◌&&◌, not, length, leb}
+use Rattle.std.specs.Prelude.{ℕ, zero, suc, ◌+◌, ◌*◌, ◌<◌, ◌≡◌, refl, List, [], ◌∷◌, Bool, true, false, cond, ◌&&◌, not, length, leb, Ok, Err}
 use Rattle.std.proofs.Common.{arith, ap}
 use Rattle.lists.specs.Lists.{within}
 use Rattle.refusal.specs.declared.Refusal.TheVariants.{BadField}
-use Rattle.refusal.specs.Refusals.{told_by, refuse_if}
-use Rattle.refusal.specs.ToldLaws.{answered-told}
+use Rattle.refusal.specs.Refusals.{told_by, refuse_if, told}
+use Rattle.refusal.specs.ToldLaws.{told-ok_unless}
 use Rattle.grid.specs.declared.Piece.{Piece}
 use Rattle.grid.specs.Pieces.{kind_of}
 use Rattle.grid.specs.Words.{line_of, from_of, to_of}
-use Rattle.boardfile.specs.declared.PieceAnswer.TheVariants as reading
 use Rattle.boardfile.specs.Open.{
   word_at,
   header_of,
@@ -29,8 +28,8 @@ use Rattle.boardfile.specs.Open.{
 
 pub open_told_lem : (bs : List ℕ)
     → open_told (open_answer bs) ≡ told_by (open_refusal bs) (file_width bs ∷ file_tracks bs ∷ file_count bs ∷ [])
-unfolding open_answer open_told
-open_told_lem bs = answered-told open_told _ _ _ (λ r. refl) refl (open_refusal bs)
+unfolding open_answer
+open_told_lem bs = told-ok_unless _ (open_refusal bs) _
 
 -- the header's fields have 9 and 12 bits
 pub fields-small : (bs : List ℕ) → (file_tracks bs < 512) × (file_count bs < 4096)
@@ -58,11 +57,11 @@ piece_fields p = kind_of p ∷ line_of p ∷ from_of p ∷ to_of p ∷ []
 pub piece-told : (bs : List ℕ) (n : ℕ)
     → piece_told (piece_answer bs n)
     ≡ told_by (refuse_if (not (readable bs n)) (BadField n)) (piece_fields (piece_of (word_at bs (4 * n))))
-unfolding piece_answer piece_told refuse_if told_by
+unfolding piece_answer told refuse_if told_by
 piece-told bs n = go (readable bs n) (piece_of (word_at bs (4 * n)))
   where
     go : (b : Bool) (p : Piece)
-        → piece_told (cond b (reading.Found p) (reading.Refused (BadField n)))
+        → piece_told (cond b (Ok p) (Err (BadField n)))
         ≡ told_by (refuse_if (not b) (BadField n)) (piece_fields p)
     go true p = refl
     go false p = refl

@@ -1,28 +1,24 @@
 // The board file: the words that a writer puts, and what the reader of a file of any bytes answers.
 #![tactic(auto)]
 
-ghost use Rattle.std.specs.Prelude.{◌≡◌, ◌+◌, ◌*◌, ◌≤◌, ◌<◌, length};
+ghost use Rattle.std.specs.Prelude.{◌≡◌, ◌+◌, ◌*◌, ◌≤◌, ◌<◌, length, find};
 ghost use Rattle.std.proofs.lemmas.List.Edits.{sets};
 ghost use Rattle.boardfile.specs.Encode.{word, header, piece_word};
 ghost use Rattle.boardfile.specs.Open.{word_at, header_of, fields_of, word_right, piece_of};
 ghost use Rattle.boardfile.specs.Open.{open_answer, piece_answer};
-ghost use Rattle.boardfile.specs.Code.{SmallWords, first_bad};
+ghost use Rattle.boardfile.specs.Code.{SmallWords, wrong_piece};
+ghost use Rattle.lists.specs.Lists.{up_to};
 
 use grid::{BRANCH, CONTACT, Column, Piece, Row, TRUNK, Track, WIDEST};
 use refusal::Refusal;
 
-// What opening a board file answers.
-#[derive(Clone, Copy)]
-pub enum OpenAnswer {
-    Board { width: u32, tracks: u32, count: u32 },
-    Refused(Refusal),
-}
-
-// What the reader answers to the number of a piece.
-#[derive(Clone, Copy)]
-pub enum PieceAnswer {
-    Found(Piece),
-    Refused(Refusal),
+// What the header of a board file that opens tells.
+#[derive(Clone, Copy, Debug, PartialEq, Eq)]
+pub struct Board {
+    pub width: u32,
+    pub tracks: u32,
+    // how many pieces the file holds
+    pub count: u32,
 }
 
 // The fields of the header's word.
@@ -181,27 +177,25 @@ fn piece_of(v: u32) -> Piece
     }
 }
 
-// The number of the first of `count` pieces whose word breaks a range or kind, or 0 if there is none.
-fn first_bad(board: &[u8], width: u32, tracks: u32, count: u32) -> u32
+// The number of the first of `count` pieces whose word breaks a range or kind.
+fn first_bad(board: &[u8], width: u32, tracks: u32, count: u32) -> Option<u32>
     requires { (length board.now ≡ 4 + 4 * count) × (tracks < 512) × (count < 4096) }
-    ensures { result ≡ first_bad board.now width tracks count }
+    ensures { result ≡ find (wrong_piece board.now width tracks) (up_to count) }
 {
-    let mut i: u32 = 1;
-    while i <= count {
+    for i in 1..=count {
         if !word_right(width, tracks, word_at(board, 4 * i as usize)) {
-            return i;
+            return Some(i);
         }
-        i += 1;
     }
-    0
+    None
 }
 
 // Opens a board file of any bytes. Time is linear in the file.
-pub fn open(board: &[u8]) -> OpenAnswer
+pub fn open(board: &[u8]) -> Result<Board, Refusal>
     ensures { result ≡ open_answer board.now }
 {
     if board.len() < 4 {
-        return OpenAnswer::Refused(Refusal::Torn(4));
+        return Err(Refusal::Torn(4));
     }
     let Header {
         width,
@@ -211,29 +205,28 @@ pub fn open(board: &[u8]) -> OpenAnswer
     } = header_of(word_at(board, 0));
     let due = 4 + 4 * count as usize;
     if board.len() != due {
-        return OpenAnswer::Refused(Refusal::Torn(due));
+        return Err(Refusal::Torn(due));
     }
     if width < 1 || WIDEST < width as usize || spare == 1 {
-        return OpenAnswer::Refused(Refusal::BadField(0));
+        return Err(Refusal::BadField(0));
     }
-    let bad = first_bad(board, width, tracks, count);
-    if bad != 0 {
-        return OpenAnswer::Refused(Refusal::BadField(bad as usize));
+    if let Some(number) = first_bad(board, width, tracks, count) {
+        return Err(Refusal::BadField(number as usize));
     }
-    OpenAnswer::Board {
+    Ok(Board {
         width,
         tracks,
         count,
-    }
+    })
 }
 
 // The piece of a given number, from 1; another number is refused with that number as place. It takes bytes that were
 // never opened too.
-pub fn piece_at(board: &[u8], number: usize) -> PieceAnswer
+pub fn piece_at(board: &[u8], number: usize) -> Result<Piece, Refusal>
     ensures { result ≡ piece_answer board.now number }
 {
     if board.len() < 4 {
-        return PieceAnswer::Refused(Refusal::BadField(number));
+        return Err(Refusal::BadField(number));
     }
     let Header {
         width,
@@ -243,14 +236,14 @@ pub fn piece_at(board: &[u8], number: usize) -> PieceAnswer
     } = header_of(word_at(board, 0));
     let pieces = count as usize;
     if number < 1 || pieces < number {
-        return PieceAnswer::Refused(Refusal::BadField(number));
+        return Err(Refusal::BadField(number));
     }
     if board.len() < 4 * number + 4 {
-        return PieceAnswer::Refused(Refusal::BadField(number));
+        return Err(Refusal::BadField(number));
     }
     let v = word_at(board, 4 * number);
     if !word_right(width, tracks, v) {
-        return PieceAnswer::Refused(Refusal::BadField(number));
+        return Err(Refusal::BadField(number));
     }
-    PieceAnswer::Found(piece_of(v))
+    Ok(piece_of(v))
 }

@@ -2,9 +2,9 @@
 ghost use Rattle.std.specs.Prelude.{◌≡◌, IfOk, true, length, leb, eqb};
 
 use crate::output;
-use blanks::BlankAnswer;
-use boardfile::{OpenAnswer, PieceAnswer};
+use boardfile::Board;
 use grid::Piece;
+use refusal::Refusal;
 use std::io;
 
 // A success, three numbers, and the line's end.
@@ -21,15 +21,17 @@ pub fn answer_open(rt: &impl Print, board: &[u8]) -> io::Result<bool>
 {
     output::put_word(rt, b"OPEN")?;
     match board_reader::open(board) {
-        OpenAnswer::Board {
-            width,
-            tracks,
-            count,
-        } => {
+        Ok(
+            Board {
+                width,
+                tracks,
+                count,
+            },
+        ) => {
             output::put_field(rt, 0)?;
             put_three(rt, width, tracks, count)?;
         }
-        OpenAnswer::Refused(refusal) => output::put_refusal(rt, refusal)?,
+        Err(refusal) => output::put_refusal(rt, refusal)?,
     }
     Ok(true)
 }
@@ -55,8 +57,8 @@ fn put_piece(rt: &impl Print, piece: Piece) -> io::Result<()> {
 fn ask_piece(rt: &impl Print, board: &[u8], number: usize) -> io::Result<()> {
     output::put_word(rt, b"PIECE")?;
     match board_reader::read_piece(board, number) {
-        PieceAnswer::Found(piece) => put_piece(rt, piece),
-        PieceAnswer::Refused(refusal) => output::put_refusal(rt, refusal),
+        Ok(piece) => put_piece(rt, piece),
+        Err(refusal) => output::put_refusal(rt, refusal),
     }
 }
 
@@ -71,14 +73,14 @@ pub fn answer_piece(rt: &impl Print, bytes: &[u8]) -> io::Result<bool>
     Ok(true)
 }
 
-fn put_blank(rt: &impl Print, answer: BlankAnswer) -> io::Result<()> {
+fn put_blank(rt: &impl Print, answer: Result<u32, Refusal>) -> io::Result<()> {
     match answer {
-        BlankAnswer::Blank(held) => {
+        Ok(held) => {
             output::put_field(rt, 0)?;
             output::put_field(rt, held as u64)?;
             output::put_word(rt, b"\n")
         }
-        BlankAnswer::Refused(refusal) => output::put_refusal(rt, refusal),
+        Err(refusal) => output::put_refusal(rt, refusal),
     }
 }
 

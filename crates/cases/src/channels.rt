@@ -4,32 +4,31 @@ ghost use Rattle.refusal.specs.Trays.{record_tray};
 ghost use Rattle.cases.specs.Cases.{rows_fit, rows_whole, beside_whole};
 
 use crate::{boards, output, panels, rows};
-use channel::{BoundsAnswer, RowsAnswer};
+use channel::LowerBounds;
 use judge::JudgeAnswer;
 use leftedge::NetRecord;
 use refusal::{BOARD_TRAY, RECORD_TRAY, RING_TRAY, Refusal, SCRATCH_TRAY};
-use rings::RingAnswer;
-use router::{LooksAnswer, RouteAnswer};
+use router::Drawn;
 use std::io;
 
 fn put_check(rt: &impl Print, top: &[u32], bot: &[u32]) -> io::Result<()> {
     output::put_word(rt, b"CHECK")?;
     match channel::check(top, bot) {
-        RowsAnswer::Accepted => output::put_word(rt, b" 0\n"),
-        RowsAnswer::Refused(refusal) => output::put_refusal(rt, refusal),
+        Ok(()) => output::put_word(rt, b" 0\n"),
+        Err(refusal) => output::put_refusal(rt, refusal),
     }
 }
 
 fn put_bounds(rt: &impl Print, top: &[u32], bot: &[u32]) -> io::Result<()> {
     output::put_word(rt, b"BOUNDS")?;
     match channel::bounds(top, bot) {
-        BoundsAnswer::Bounds { density, chain } => {
+        Ok(LowerBounds { density, chain }) => {
             output::put_field(rt, 0)?;
             output::put_field(rt, density as u64)?;
             output::put_field(rt, chain as u64)?;
             output::put_word(rt, b"\n")
         }
-        BoundsAnswer::Refused(refusal) => output::put_refusal(rt, refusal),
+        Err(refusal) => output::put_refusal(rt, refusal),
     }
 }
 
@@ -85,7 +84,7 @@ fn put_fill(rt: &impl Print, top: &[u32], bot: &[u32]) -> io::Result<()> {
     let routing = router::route_rows(top, bot, &mut ring, &mut board);
     let answer = routing.answer;
     match answer {
-        RouteAnswer::Routed { tracks, pieces: _ } => {
+        Ok(Drawn { tracks, pieces: _ }) => {
             let records = routing.records;
             output::put_field(rt, 0)?;
             output::put_field(rt, tracks as u64)?;
@@ -93,20 +92,20 @@ fn put_fill(rt: &impl Print, top: &[u32], bot: &[u32]) -> io::Result<()> {
             put_tracks(rt, records, routing.count)?;
             output::put_kept_word(rt, output::is_kept(&ring, 0))?;
         }
-        RouteAnswer::Refused(refusal) => put_unfilled(rt, refusal, &ring)?,
+        Err(refusal) => put_unfilled(rt, refusal, &ring)?,
     }
     put_looks(rt, routing.looks)
 }
 
 // A number of looks, or a refusal.
-fn put_told(rt: &impl Print, answer: LooksAnswer) -> io::Result<()> {
+fn put_told(rt: &impl Print, answer: Result<usize, Refusal>) -> io::Result<()> {
     match answer {
-        LooksAnswer::Looks(n) => {
+        Ok(n) => {
             output::put_field(rt, 0)?;
             output::put_field(rt, n as u64)?;
             output::put_word(rt, b"\n")
         }
-        LooksAnswer::Refused(refusal) => output::put_refusal(rt, refusal),
+        Err(refusal) => output::put_refusal(rt, refusal),
     }
 }
 
@@ -122,18 +121,18 @@ fn put_fewest(rt: &impl Print, top: &[u32], bot: &[u32]) -> io::Result<()> {
     let mut ring = [output::MARK; RING_TRAY];
     output::put_word(rt, b"FEWEST")?;
     match rings::fewest_ring(top, bot, &mut ring) {
-        RingAnswer::Pairs(pairs) => {
+        Ok(Some(pairs)) => {
             output::put_field(rt, 0)?;
             output::put_field(rt, pairs as u64)?;
             output::put_word(rt, b"\nRING")?;
             output::put_row(rt, &ring, doubled(pairs as usize))?;
             output::put_kept_word(rt, output::is_kept(&ring, doubled(pairs as usize)))
         }
-        RingAnswer::NoRing => {
+        Ok(None) => {
             output::put_word(rt, b" 0 NONE\n")?;
             output::put_kept_word(rt, output::is_kept(&ring, 0))
         }
-        RingAnswer::Refused(refusal) => {
+        Err(refusal) => {
             output::put_refusal(rt, refusal)?;
             output::put_kept_word(rt, output::is_kept(&ring, 0))
         }

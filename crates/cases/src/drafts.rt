@@ -4,9 +4,8 @@ ghost use Rattle.std.specs.Prelude.{◌≡◌, IfOk, ◌+◌, ◌-◌, ◌*◌, 
 ghost use Rattle.cases.specs.Cases.{is_kept, number_at, calls_whole, draft_whole};
 
 use crate::{output, rows};
-use draft::{CountAnswer, DraftAnswer};
 use grid::{Column, Net};
-use refusal::DRAFT_TRAY;
+use refusal::{DRAFT_TRAY, Refusal};
 use std::io;
 
 // The words of the buffer, and the bytes of a call: its kind and three numbers, two bytes each.
@@ -16,23 +15,23 @@ const CALL_BYTES: usize = 8;
 
 const MARK: u64 = output::MARK as u64;
 
-fn put_changed(rt: &impl Print, name: &[u8], answer: DraftAnswer) -> io::Result<()> {
+fn put_changed(rt: &impl Print, name: &[u8], answer: Result<(), Refusal>) -> io::Result<()> {
     output::put_word(rt, name)?;
     match answer {
-        DraftAnswer::Done => output::put_word(rt, b" 0\n"),
-        DraftAnswer::Refused(refusal) => output::put_refusal(rt, refusal),
+        Ok(()) => output::put_word(rt, b" 0\n"),
+        Err(refusal) => output::put_refusal(rt, refusal),
     }
 }
 
-fn put_counted(rt: &impl Print, name: &[u8], answer: CountAnswer) -> io::Result<()> {
+fn put_counted(rt: &impl Print, name: &[u8], answer: Result<u32, Refusal>) -> io::Result<()> {
     output::put_word(rt, name)?;
     match answer {
-        CountAnswer::Count(k) => {
+        Ok(k) => {
             output::put_field(rt, 0)?;
             output::put_number(rt, k)?;
             output::put_word(rt, b"\n")
         }
-        CountAnswer::Refused(refusal) => output::put_refusal(rt, refusal),
+        Err(refusal) => output::put_refusal(rt, refusal),
     }
 }
 

@@ -2,7 +2,6 @@
 ghost use Rattle.std.specs.Prelude.{◌≤◌, length};
 
 use crate::{output, rows, texts};
-use panel::JoinAnswer;
 use refusal::ROW_TRAY;
 use std::io;
 
@@ -21,8 +20,8 @@ fn put_panel(
     let mut bot = [output::MARK; ROW_TRAY];
     output::put_word(rt, b"JOIN")?;
     match panel::join(top1, bot1, top2, bot2, &mut top, &mut bot) {
-        JoinAnswer::Width(w) => texts::put_rows(rt, &top, &bot, w),
-        JoinAnswer::Refused(refusal) => {
+        Ok(w) => texts::put_rows(rt, &top, &bot, w),
+        Err(refusal) => {
             output::put_refusal(rt, refusal)?;
             output::put_kept_word(rt, output::is_kept(&top, 0) && output::is_kept(&bot, 0))
         }

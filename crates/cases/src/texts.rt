@@ -2,7 +2,6 @@
 ghost use Rattle.std.specs.Prelude.{◌≡◌, IfOk, true};
 
 use crate::output;
-use pinlist::ReadAnswer;
 use refusal::ROW_TRAY;
 use std::io;
 
@@ -30,8 +29,8 @@ pub fn answer_read(rt: &impl Print, text: &[u8]) -> io::Result<bool>
     let mut bot = [output::MARK; ROW_TRAY];
     output::put_word(rt, b"READ")?;
     match pinlist::read(text, &mut top, &mut bot) {
-        ReadAnswer::Width(w) => put_rows(rt, &top, &bot, w)?,
-        ReadAnswer::Refused(refusal) => {
+        Ok(w) => put_rows(rt, &top, &bot, w)?,
+        Err(refusal) => {
             output::put_refusal(rt, refusal)?;
             output::put_kept_word(rt, output::is_kept(&top, 0) && output::is_kept(&bot, 0))?;
         }

@@ -41,7 +41,7 @@ one_place ch n i j parked p q =
     (eqb→eq (pin_count ch n) 1 (and_right (ltb 0 n) (eqb (pin_count ch n) 1) parked))
 
 module _ (ch : Channel) where
-  -- 02, Req 04: "Where the owner's promise looks for a column with pins of two different nets, parked pins are not
+  -- SCOPE, Req 04: "Where the owner's promise looks for a column with pins of two different nets, parked pins are not
   -- counted"
   pub uncounted : length ch.bot ≡ width ch → Unconstrained ch ↔ ParkedBeside ch
   uncounted even = (beside, free)

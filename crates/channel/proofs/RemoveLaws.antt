@@ -19,7 +19,7 @@ use Rattle.channel.specs.Answers.{Escapes}
 use Rattle.channel.specs.Rows.{first_high, unless_once, nets_of_row}
 use Rattle.channel.specs.Parked.{NetsOnly, ParkedRemoved}
 use Rattle.channel.proofs.ShownLaws.{width-shown, escapes-shown, only-shown}
-use Rattle.channel.specs.RowLaws.{zeros, pins-counted, no-first-high}
+use Rattle.channel.specs.RowLaws.{zeros, pins-counted, no-first-high, found-no-high}
 use Rattle.channel.proofs.EscapeLaws.{top-low, bot-low}
 
 module _ (counts : List ℕ) where
@@ -57,10 +57,10 @@ module _ (counts : List ℕ) where
 
 module _ (ch : Channel) (esc : Escapes ch) where
   pub top_within : first_high ch.top ≡ 0
-  top_within = sym (no-first-high ch.top (λ k h. top-low ch k esc))
+  top_within = found-no-high ch.top (no-first-high ch.top (λ k h. top-low ch k esc))
 
   pub bot-within : first_high ch.bot ≡ 0
-  bot-within = sym (no-first-high ch.bot (λ k h. bot-low ch k esc))
+  bot-within = found-no-high ch.bot (no-first-high ch.bot (λ k h. bot-low ch k esc))
 
   -- both rows counted from nothing
   abbrev pub counted : List ℕ

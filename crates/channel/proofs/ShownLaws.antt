@@ -233,7 +233,7 @@ module _ (ch : Channel) where
       ∙ ap (λ (l : List ℕ). cond (leb (greatest (map (depth (suc (length (nets ch))) ch) (spanning ch))) (length l))
       (greatest (map (depth (suc (length (nets ch))) ch) (spanning ch))) 0) (same-nets same-pins)
 
-  -- 02, Req 04: "Tangled channels are those that stay so with the parked pins removed"
+  -- SCOPE, Req 04: "Tangled channels are those that stay so with the parked pins removed"
   pub tangled-shown : Tangled ch ↔ Tangled shown
   tangled-shown = (
     λ r. (r.0, record { distinct = r.1.distinct; closed = descends (λ a b c h. above→shown h) r.1.closed }),

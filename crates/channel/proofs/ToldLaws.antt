@@ -3,7 +3,6 @@
 use Rattle.std.specs.Prelude.{ℕ, suc, ◌≤◌, ◌≡◌, List, [], ◌∷◌, Bool}
 use native.Mathlib.Omega.{arith}
 use Rattle.std.proofs.Math.Decide.{dec_lt, dec_le}
-use Rattle.std.proofs.Math.Path.{refl}
 use Rattle.std.proofs.Common.{ap}
 use Rattle.std.proofs.Math.Logic.{⊎_elim}
 use Rattle.std.proofs.Math.Option.{some}
@@ -14,7 +13,7 @@ use Rattle.refusal.specs.declared.Refusal.{Refusal}
 use Rattle.refusal.specs.declared.Refusal.TheVariants.{TooWide, Uneven, HighNet}
 use Rattle.refusal.specs.Refusals.{number_of, told_by, refuse_if, refuse_at_first, ◌or_else◌}
 use Rattle.refusal.specs.ChainLaws.{or_else_some, refuse-if-some, refuse-at-first-some}
-use Rattle.refusal.specs.ToldLaws.{answered-told}
+use Rattle.refusal.specs.ToldLaws.{told-ok_unless}
 use Rattle.channel.specs.Channel.{Channel, width, highest_net, widest, nets, spanning}
 use Rattle.channel.specs.Density.{density}
 use Rattle.channel.specs.Constraints.{chain, Step, nets_of, Ring}
@@ -26,6 +25,7 @@ use Rattle.channel.specs.Answers.{
   Escapes,
   rows_answer,
   rows_told,
+  bounds_of,
   bounds_answer,
   bounds_told,
 }
@@ -37,12 +37,12 @@ use Rattle.channel.proofs.ChainLaws.{ring-next, deepest, chain-counts, chain-ove
 
 module _ (ch : Channel) where
   pub rows_told_lem : rows_told (rows_answer ch) ≡ told_by (rows_refusal ch) []
-  unfolding rows_answer rows_told
-  rows_told_lem = answered-told rows_told _ _ _ (λ r. refl) refl (rows_refusal ch)
+  unfolding rows_answer
+  rows_told_lem = told-ok_unless _ (rows_refusal ch) tt
 
   pub bounds-told : bounds_told (bounds_answer ch) ≡ told_by (rows_refusal ch) (density ch ∷ chain ch ∷ [])
-  unfolding bounds_answer bounds_told
-  bounds-told = answered-told bounds_told _ _ _ (λ r. refl) refl (rows_refusal ch)
+  unfolding bounds_answer
+  bounds-told = told-ok_unless _ (rows_refusal ch) (bounds_of ch)
 
   spans-few : length (spanning ch) ≤ highest_net
   unfolding spanning

@@ -1,5 +1,5 @@
 -- What the row check answers, test by test: the refusal that a test leads to, and what is left of the chain past it.
-use Rattle.std.specs.Prelude.{ℕ, suc, min, ◌≤◌, ◌<◌, ◌≡◌, ◌⊎◌, ◌||◌, not, length}
+use Rattle.std.specs.Prelude.{ℕ, suc, min, ◌≤◌, ◌<◌, ◌≡◌, ◌⊎◌, ◌||◌, not, length, Ok, Err}
 use Rattle.std.proofs.Common.{arith, ◌∙◌, subst, lt→ltb, eqb→eq}
 use Rattle.std.proofs.Math.Path.{sym, ap}
 use Rattle.std.proofs.Math.Logic.{⊎_elim}
@@ -11,11 +11,10 @@ use Rattle.refusal.specs.declared.Refusal.TheVariants.{TooWide, Uneven, HighNet}
 use Rattle.refusal.specs.Refusals.{◌or_else◌}
 use Rattle.refusal.specs.ChainLaws.{none-refuse-if, some-refuse-if, refuse-none, refuse-first, none-or-else-later}
 use Rattle.refusal.specs.ChainLaws.{some-or-else, answered-none, answered-some}
-use Rattle.channel.specs.declared.RowsAnswer.TheVariants as checking
 use Rattle.channel.specs.Channel.{Channel, positions, widest}
 use Rattle.channel.specs.Answers.{too_wide, uneven, high_net, rows_refusal, rows_answer}
-use Rattle.channel.specs.Rows.{first_high}
-use Rattle.channel.specs.RowLaws.{high, first-high-neither}
+use Rattle.channel.specs.Rows.{high, first_high}
+use Rattle.channel.specs.RowLaws.{first-high-neither}
 
 module _ (ch : Channel) where
   -- no row is over 512
@@ -36,12 +35,12 @@ module _ (ch : Channel) where
     pub bot-low : first_high ch.bot ≡ 0
 
   -- the answer of each test, and what is left of the chain past it
-  refused : (r : Refusal) → rows_refusal ch ≡ some r → checking.Refused r ≡ rows_answer ch
+  refused : (r : Refusal) → rows_refusal ch ≡ some r → Err r ≡ rows_answer ch
   unfolding rows_answer
-  refused r e = sym (answered-some checking.Refused (rows_refusal ch) checking.Accepted r e)
+  refused r e = sym (answered-some Err (rows_refusal ch) (Ok tt) r e)
 
   pub answer-wide : (widest < length ch.top) ⊎ (widest < length ch.bot)
-      → checking.Refused (TooWide 513) ≡ rows_answer ch
+      → Err (TooWide 513) ≡ rows_answer ch
   unfolding rows_refusal too_wide
   answer-wide h =
       let a = ltb widest (length ch.top) in
@@ -61,13 +60,13 @@ module _ (ch : Channel) where
       (λ k. let l = ltb→lt widest (length ch.bot) k in omega arith) (or_cases a b t)))
 
   pub answer-uneven : Narrow → (length ch.top ≡ length ch.bot → ⊥) ⊎ (length ch.top ≡ 0) → (p : ℕ)
-      → p ≡ suc (min (length ch.top) (length ch.bot)) → checking.Refused (Uneven p) ≡ rows_answer ch
+      → p ≡ suc (min (length ch.top) (length ch.bot)) → Err (Uneven p) ≡ rows_answer ch
   unfolding uneven
   answer-uneven n h p e =
       let a = eqb (length ch.top) (length ch.bot) in
       let b = eqb (length ch.top) 0 in
       let q = Uneven (suc (min (length ch.top) (length ch.bot))) in
-      ap (λ (k : ℕ). checking.Refused (Uneven k)) e ∙ refused q
+      ap (λ (k : ℕ). Err (Uneven k)) e ∙ refused q
       (past-wide n ∙ some-or-else (uneven ch) (high_net ch) q
       (some-refuse-if (not a || b) q (⊎_elim (λ o. or_left (not a) b
       (not-passes a (λ t. o (eqb→eq (length ch.top) (length ch.bot) t))))
@@ -83,16 +82,15 @@ module _ (ch : Channel) where
       not-fails a k (subst (λ (m : ℕ). T (eqb (length ch.top) m)) s.same (eqb_refl (length ch.top))))
       (λ k. s.filled (eqb→eq (length ch.top) 0 k)) (or_cases (not a) b t)))
 
-  pub answer-high : Even → (p : ℕ) → first_high (positions ch) ≡ p → (p ≡ 0 → ⊥)
-      → checking.Refused (HighNet p) ≡ rows_answer ch
+  pub answer-high : Even → {p : ℕ} → first_high (positions ch) ≡ p → (p ≡ 0 → ⊥) → Err (HighNet p) ≡ rows_answer ch
   unfolding high_net first_high
-  answer-high s p e h =
+  answer-high s {p} e h =
       refused (HighNet p) (past-uneven s ∙ (refuse-first HighNet (high (positions ch)) (length (positions ch))
       (λ z. h (sym e ∙ z)) ∙ ap (λ (k : ℕ). some (HighNet k)) e))
 
-  pub answer-accepted : Low → checking.Accepted ≡ rows_answer ch
+  pub answer-accepted : Low → Ok tt ≡ rows_answer ch
   unfolding rows_answer high_net first_high
   answer-accepted l =
-      sym (answered-none checking.Refused (rows_refusal ch) checking.Accepted
+      sym (answered-none Err (rows_refusal ch) (Ok tt)
       (past-uneven l.even ∙ refuse-none HighNet (high (positions ch)) (length (positions ch))
       (first-high-neither ch.top ch.bot l.top-low l.bot-low)))

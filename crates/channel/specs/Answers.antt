@@ -1,14 +1,11 @@
--- 01, refusals 3 to 5 of rows, each with its place, and the answers of the operations on rows alone.
-use Rattle.std.specs.Prelude.{ℕ, suc, min, ◌≤◌, ◌<◌, ◌≡◌, [], ◌∷◌, ◌||◌, not, length, ltb, eqb}
+-- SCOPE, refusals 3 to 5 of rows, each with its place, and the answers of the operations on rows alone.
+use Rattle.std.specs.Prelude.{ℕ, suc, min, ◌≤◌, ◌<◌, ◌≡◌, [], ◌∷◌, ◌||◌, not, length, ltb, eqb, Result}
 use Rattle.std.proofs.Math.Option.{Option}
 use Rattle.lists.specs.Lists.{keep, up_to, at}
 use Rattle.refusal.specs.declared.Refusal.{Refusal}
 use Rattle.refusal.specs.declared.Refusal.TheVariants.{TooWide, Uneven, HighNet}
-use Rattle.refusal.specs.Refusals.{Told, told_refusal, told_values, refuse_if, refuse_at_first, ◌or_else◌, answered}
-use Rattle.channel.specs.declared.RowsAnswer.{RowsAnswer}
-use Rattle.channel.specs.declared.RowsAnswer.TheVariants as checking
-use Rattle.channel.specs.declared.BoundsAnswer.{BoundsAnswer}
-use Rattle.channel.specs.declared.BoundsAnswer.TheVariants as bounds
+use Rattle.refusal.specs.Refusals.{Told, refuse_if, refuse_at_first, ◌or_else◌, ok_unless, told}
+use Rattle.channel.specs.declared.LowerBounds.{LowerBounds}
 use Rattle.channel.specs.Channel.{Channel, width, positions, highest_net, widest}
 use Rattle.channel.specs.Density.{density}
 use Rattle.channel.specs.Constraints.{chain}
@@ -39,20 +36,18 @@ pub record Escapes (ch : Channel) : Type 0 where
   pub low : (c : ℕ) → (at ch.top c ≤ highest_net) × (at ch.bot c ≤ highest_net)
 
 -- what the check of rows answers
-unfoldable pub rows_answer : Channel → RowsAnswer
-rows_answer ch = answered checking.Refused (rows_refusal ch) checking.Accepted
+unfoldable pub rows_answer : Channel → Result (Unit {0}) Refusal
+rows_answer ch = ok_unless (rows_refusal ch) tt
 
-unfoldable pub rows_told : RowsAnswer → Told
-rows_told checking.Accepted = told_values []
-rows_told (checking.Refused r) = told_refusal r
+abbrev pub rows_told : Result (Unit {0}) Refusal → Told
+rows_told = told (λ _. [])
 
-abbrev pub bounds_of : Channel → BoundsAnswer
-bounds_of ch = bounds.Bounds (density ch) (chain ch)
+abbrev pub bounds_of : Channel → LowerBounds
+bounds_of ch = record { density = density ch; chain = chain ch }
 
 -- "Asked for bounds alone, a tangled channel answers its density and chain 0, not refusal 7"
-unfoldable pub bounds_answer : Channel → BoundsAnswer
-bounds_answer ch = answered bounds.Refused (rows_refusal ch) (bounds_of ch)
+unfoldable pub bounds_answer : Channel → Result LowerBounds Refusal
+bounds_answer ch = ok_unless (rows_refusal ch) (bounds_of ch)
 
-unfoldable pub bounds_told : BoundsAnswer → Told
-bounds_told (bounds.Bounds d k) = told_values (d ∷ k ∷ [])
-bounds_told (bounds.Refused r) = told_refusal r
+abbrev pub bounds_told : Result LowerBounds Refusal → Told
+bounds_told = told (λ b. b.density ∷ b.chain ∷ [])

@@ -1,4 +1,4 @@
--- 01, "Pin list" and "Spans and constraints", and 02, Req 04: a channel's rows, its parked pins, its nets, their pins
+-- SCOPE, "Pin list" and "Spans and constraints", and Req 04: a channel's rows, its parked pins, its nets, their pins
 -- and spans.
 use Rattle.std.specs.Prelude.{ℕ, List, map, ◌++◌, Bool, cond, ◌&&◌, ◌||◌, length, ltb, eqb}
 use Rattle.lists.specs.Lists.{keep, up_to, head_or, last_or, at}
@@ -31,12 +31,12 @@ widest = 512
 unfoldable pub pin_count : Channel → ℕ → ℕ
 pin_count ch n = length (keep (eqb n) (positions ch))
 
--- 02, Req 04: "A net with just one pin is parked"; 0 means no pin
+-- SCOPE, Req 04: "A net with just one pin is parked"; 0 means no pin
 unfoldable pub is_parked : Channel → ℕ → Bool
 is_parked ch n = ltb 0 n && eqb (pin_count ch n) 1
 
--- the number names a net that is routed: it has more than one pin. 02, Req 04: a parked one has "no record, no copper,
--- no part in spans or the above relation". Every definition below asks here
+-- the number names a net that is routed: it has more than one pin. SCOPE, Req 04: a parked one has "no record, no
+-- copper, no part in spans or the above relation". Every definition below asks here
 unfoldable pub is_net : Channel → ℕ → Bool
 is_net ch n = ltb 0 n && ltb 1 (pin_count ch n)
 

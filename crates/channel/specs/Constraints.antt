@@ -1,11 +1,11 @@
--- 01, "Spans and constraints": which net is above which (the vertical constraints), paths down, the chain, and rings
--- (its cycles).
+-- SCOPE, "Spans and constraints": which net is above which (the vertical constraints), paths down, the chain, and
+-- rings (its cycles).
 use Rattle.std.specs.Prelude.{ℕ, zero, suc, ◌≡◌, Bool, cond, ◌&&◌, not, length, T, leb, eqb}
 use mathlib.Core.List.{List, [], ◌∷◌, map, Memᴰ}
 use Rattle.lists.specs.Lists.{keep, up_to, head_or, greatest, at, Distinct}
 use Rattle.channel.specs.Channel.{Channel, width, is_net, nets, spanning}
 
--- "A column with TOP net a and BOT net b, both nonzero and different, puts a above b in that column"; 02, Req 04: a
+-- "A column with TOP net a and BOT net b, both nonzero and different, puts a above b in that column"; SCOPE, Req 04: a
 -- parked pin has no part in it
 pub record Above (ch : Channel) (a b c : ℕ) : Type 0 where
   pub on_top : at ch.top c ≡ a
@@ -74,6 +74,6 @@ pub record Ring (ch : Channel) (steps : List Step) : Type 0 where
 abbrev pub Tangled : Channel → Type 0
 Tangled ch = (steps : List Step) × Ring ch steps
 
--- "Where no column holds pins of two different nets" (demand 3); 02, Req 04: "parked pins are not counted"
+-- "Where no column holds pins of two different nets" (demand 3); SCOPE, Req 04: "parked pins are not counted"
 abbrev pub Unconstrained : Channel → Type 0
 Unconstrained ch = (a b c : ℕ) → Above ch a b c → ⊥

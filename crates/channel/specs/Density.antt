@@ -1,4 +1,4 @@
--- 01, "Spans and constraints": local density and density, counted over a list of spans.
+-- SCOPE, "Spans and constraints": local density and density, counted over a list of spans.
 use Rattle.std.specs.Prelude.{ℕ, List, map, length}
 use Rattle.lists.specs.Lists.{keep, up_to, greatest, within}
 use Rattle.channel.specs.Channel.{Channel, width, first_column, last_column, spanning}

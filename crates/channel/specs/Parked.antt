@@ -1,4 +1,4 @@
--- 02, Req 04: columns with a parked pin, and what the removal of the parked pins leaves for the code that routes.
+-- SCOPE, Req 04: columns with a parked pin, and what the removal of the parked pins leaves for the code that routes.
 use Rattle.std.specs.Prelude.{ℕ, ◌<◌, ◌≡◌, List, ◌⊎◌, Bool, T}
 use Rattle.lists.specs.Lists.{at, any_of, overlay}
 use Rattle.channel.specs.Channel.{Channel, positions, is_parked, is_net, without_parked}

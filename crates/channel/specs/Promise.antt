@@ -1,4 +1,4 @@
--- What the chain is, as a statement: 01, "Spans and constraints".
+-- What the chain is, as a statement: SCOPE, "Spans and constraints".
 use Rattle.std.specs.Prelude.{ℕ, ◌≤◌, ◌<◌, ◌≡◌, []}
 use Rattle.channel.specs.Channel.{Channel, spanning}
 use Rattle.channel.specs.Constraints.{chain, Tangled, Path↓}

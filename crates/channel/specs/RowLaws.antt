@@ -1,28 +1,23 @@
 -- The row check by its parts: the first high number of a row and of two rows put end to end, and what the counts of two
 -- rows tell of a channel's nets.
-use Rattle.std.specs.Prelude.{ℕ, suc, ◌+◌, ◌-◌, ◌≤◌, ◌<◌, ◌≡◌, List, ◌++◌, Bool, get_or, replicate, ltb, eqb}
+use Rattle.std.specs.Prelude.{ℕ, suc, ◌+◌, ◌-◌, ◌≤◌, ◌<◌, ◌≡◌, List, ◌++◌, get_or, replicate, ltb, eqb, find, Some, None}
 use native.Mathlib.Omega.{arith}
 use Rattle.std.proofs.Math.Decide.{dec_le}
-use Rattle.std.proofs.Common.{sym, ◌∙◌, ⊎_elim, ltb→lt, lt→ltb}
+use Rattle.std.proofs.Common.{sym, ◌∙◌, ltb→lt, lt→ltb}
 use Rattle.std.proofs.Math.Path.{ap, subst}
 use Rattle.std.proofs.Math.ListN.{length, length-append}
 use Rattle.std.proofs.lemmas.List.{length-replicate}
 use Rattle.std.proofs.Math.Dec.{T}
-use Rattle.lists.specs.Lists.{at, head_or}
-use Rattle.lists.specs.Tests.{equal?}
+use Rattle.lists.specs.Lists.{at, up_to, head_or}
 use Rattle.lists.specs.Firsts.{Passing}
 use Rattle.lists.specs.Ends.{at_suc}
 use Rattle.lists.specs.Pigeonhole.{length-keep}
 use Rattle.lists.specs.Places.{at_left, at_right}
 use Rattle.lists.specs.Tallies.{first_of, length-keep-append, first-is, first-none, is-first, none_first}
-use Rattle.lists.specs.Tallies.{first-at, none-at}
+use Rattle.lists.specs.Finds.{scan-found, scan-none, found-lowest, found-head, not-found-head}
 use Rattle.lists.specs.Counts.{get_or-zeros, tally, tally-length, tally-times}
 use Rattle.channel.specs.Channel.{Channel, highest_net, pin_count}
-use Rattle.channel.specs.Rows.{first_high}
-
--- the test of `first_high`: place p of the row holds a number over 511
-abbrev pub high : List ℕ → ℕ → Bool
-high row p = ltb highest_net (at row p)
+use Rattle.channel.specs.Rows.{high, first_high}
 
 -- place i + 1 of a row holds a high number exactly if the number at i is over 511
 high-at : (row : List ℕ) (i : ℕ) → 511 < get_or row i 0 → T (high row (suc i))
@@ -33,17 +28,34 @@ at_high row i t = let h = ltb→lt highest_net (at row (suc i)) t in let e = at_
 
 -- the scan of a row from its front stops at the first high number, or finds none
 pub first-high-at : (row : List ℕ) (i : ℕ) → i < length row → 511 < get_or row i 0
-    → ((k : ℕ) → k < i → get_or row k 0 ≤ 511) → i + 1 ≡ first_high row
-unfolding first_high
+    → ((k : ℕ) → k < i → get_or row k 0 ≤ 511) → Some (i + 1) ≡ find (high row) (up_to (length row))
 first-high-at row i inside here before =
-    sym (first-at (high row) (length row) (λ k. 511 < get_or row k 0) (λ k l. at_high row k) i inside (high-at row i here)
-    (λ k l h. let b = before k l in omega arith))
+    scan-found (high row) (length row) i inside (high-at row i here) (λ k l t. let b = before k l in
+    let h = at_high row k t in omega arith)
 
-pub no-first-high : (row : List ℕ) → ((k : ℕ) → k < length row → get_or row k 0 ≤ 511) → 0 ≡ first_high row
-unfolding first_high head_or
+pub no-first-high : (row : List ℕ) → ((k : ℕ) → k < length row → get_or row k 0 ≤ 511)
+    → None ≡ find (high row) (up_to (length row))
 no-first-high row low =
-    sym (ap (head_or 0) (none-at (high row) (length row) (λ k. 511 < get_or row k 0) (λ k l. at_high row k)
-    (λ k l h. let b = low k l in omega arith)))
+    scan-none (high row) (length row) (λ k l t. let b = low k l in let h = at_high row k t in omega arith)
+
+-- as a number, which is not 0 where one is found, and within the row
+pub record HighFound (row : List ℕ) (p : ℕ) : Type 0 where
+  pub first : first_high row ≡ p
+  pub some : first_high row ≡ 0 → ⊥
+  pub inside : p ≤ length row
+
+pub found-high : (row : List ℕ) {p : ℕ} → Some p ≡ find (high row) (up_to (length row)) → HighFound row p
+unfolding first_high
+found-high row e =
+    let h = (found-lowest (high row) (length row) (sym e)).holds in
+    let low = h.low in
+    let above = h.high in
+    let same = found-head (high row) 0 (up_to (length row)) (sym e) in
+    record { first = same; some = λ z. omega arith; inside = omega arith }
+
+pub found-no-high : (row : List ℕ) → None ≡ find (high row) (up_to (length row)) → first_high row ≡ 0
+unfolding first_high
+found-no-high row e = not-found-head (high row) 0 (up_to (length row)) (sym e)
 
 -- and where it says that there is none, there is none
 pub none-high : (row : List ℕ) → first_high row ≡ 0 → (k : ℕ) → k < length row → get_or row k 0 ≤ 511
@@ -55,14 +67,6 @@ none-high row e k inside =
           absurd (none_first (high row) (length row) e (suc k)
           (record { low = omega arith; high = omega arith; passes = high-at row k (omega arith) }))
     ]
-
--- the first high number stands within the row
-pub first-high-most : (row : List ℕ) → first_high row ≤ length row
-unfolding first_high
-first-high-most row =
-    ⊎_elim (λ e. omega arith) (λ some. let h = (is-first (high row) (length row) some).holds in let u = h.high in
-    omega arith)
-    (equal? (first_of (high row) (length row)) 0)
 
 -- the counts before any pin is counted
 unfoldable pub zeros : List ℕ

@@ -3,9 +3,13 @@ use Rattle.std.specs.Prelude.{ℕ, List, map, Bool, cond, length, get_or, ltb, e
 use Rattle.lists.specs.Lists.{keep, head_or, up_to, at}
 use Rattle.channel.specs.Channel.{highest_net}
 
+-- place p of the row holds a number over 511
+abbrev pub high : List ℕ → ℕ → Bool
+high row p = ltb highest_net (at row p)
+
 -- the place of the first number over 511, 0 if there is none
 unfoldable pub first_high : List ℕ → ℕ
-first_high row = head_or 0 (keep (λ p. ltb highest_net (at row p)) (up_to (length row)))
+first_high row = head_or 0 (keep (high row) (up_to (length row)))
 
 -- the number is counted just once
 abbrev pub once : List ℕ → ℕ → Bool

@@ -1,8 +1,6 @@
 -- The columns of all net numbers, as the code keeps them in arrays: number n stands at place n, counted from 0.
 use Rattle.std.specs.Prelude.{ℕ, ◌≡◌, List, map, cond, get_or, set, eqb}
 use Rattle.lists.specs.Lists.{keep, from}
-use Rattle.grid.specs.Pieces.{column}
-use Rattle.channel.specs.declared.spans.Spans.{Spans}
 use Rattle.channel.specs.Channel.{Channel, first_column, last_column, spanning}
 
 -- what a definition gives for each number from 0 to 511
@@ -15,10 +13,18 @@ firsts ch = each512 (first_column ch)
 abbrev pub lasts : Channel → List ℕ
 lasts ch = each512 (last_column ch)
 
+-- a first and a last column for each net number, by its place; column 0 where a number is no net's
+pub record Spans : Type 0 where
+  pub first : List ℕ
+  pub last : List ℕ
+
+abbrev pub spans : List ℕ → List ℕ → Spans
+spans first last = record { first = first; last = last }
+
 -- the first and the last column of each net number, by its place
 pub record SpansFound (ch : Channel) (s : Spans) : Type 0 where
-  pub first : s.first ≡ map column (firsts ch)
-  pub last : s.last ≡ map column (lasts ch)
+  pub first : s.first ≡ firsts ch
+  pub last : s.last ≡ lasts ch
 
 -- the first columns with column c noted for number n, which keeps an earlier one
 unfoldable pub first_noted : List ℕ → ℕ → ℕ → List ℕ

@@ -1,4 +1,4 @@
--- 02, Req 02, "The board turned over": the turned list, and what it has in common with the first, as a statement.
+-- SCOPE, Req 02, "The board turned over": the turned list, and what it has in common with the first, as a statement.
 use Rattle.std.specs.Prelude.{◌≡◌, ◌↔◌}
 use Rattle.channel.specs.Channel.{Channel, rows}
 use Rattle.channel.specs.Density.{density}

@@ -8,22 +8,15 @@ mod spanning;
 mod spans;
 
 pub use lower_bounds::bounds;
-pub use parked::remove_parked;
-use refusal::Refusal;
+pub use parked::{has_parked, remove_parked};
 pub use rows::check;
 pub use spanning::{highest_number, list_spanning};
-pub use spans::{Spans, find_columns, typed_spans};
+pub use spans::find_columns;
 
-// What the check of two rows answers.
-#[derive(Clone, Copy)]
-pub enum RowsAnswer {
-    Accepted,
-    Refused(Refusal),
-}
-
-// What is answered to a request for bounds alone.
-#[derive(Clone, Copy)]
-pub enum BoundsAnswer {
-    Bounds { density: u32, chain: u32 },
-    Refused(Refusal),
+// The bounds of a channel.
+#[derive(Clone, Copy, Debug, PartialEq, Eq)]
+pub struct LowerBounds {
+    pub density: u32,
+    // 0 where the channel is tangled
+    pub chain: u32,
 }

@@ -1,5 +1,6 @@
 // The bounds of a channel: its density and its chain, of its nets with spans as items.
 ghost use Rattle.std.specs.Prelude.{◌≡◌, length};
+ghost use Rattle.grid.specs.Numbers.{column_numbers};
 ghost use Rattle.channel.specs.Channel.{rows, spanning};
 ghost use Rattle.channel.specs.Density.{density};
 ghost use Rattle.channel.specs.Constraints.{chain};
@@ -7,22 +8,23 @@ ghost use Rattle.channel.specs.Answers.{Escapes, bounds_of, bounds_answer};
 ghost use Rattle.channel.specs.Parked.{NetsOnly};
 ghost use Rattle.channel.specs.Spans.{firsts, lasts};
 
+use crate::LowerBounds;
 use crate::parked::{has_parked, remove_parked};
 use crate::spanning::list_spanning;
 use crate::spans::find_columns;
-use crate::{BoundsAnswer, RowsAnswer};
-use grid::{COLUMN_SLOTS, NET_SLOTS, WIDEST};
+use grid::{COLUMN_SLOTS, Column, NET_SLOTS, WIDEST};
+use refusal::Refusal;
 
 // The density of a channel whose rows show nets only, from the list of its nets with spans.
 fn density_of(
     top: &[u32],
     bot: &[u32],
     items: &[u32],
-    first: &[u32; NET_SLOTS],
-    last: &[u32; NET_SLOTS],
+    first: &[Column; NET_SLOTS],
+    last: &[Column; NET_SLOTS],
 ) -> u32
     requires { NetsOnly (rows top.now bot.now) × (items.now ≡ spanning (rows top.now bot.now))
-        × (first.now ≡ firsts (rows top.now bot.now)) × (last.now ≡ lasts (rows top.now bot.now)) }
+        × (column_numbers first.now ≡ firsts (rows top.now bot.now)) × (column_numbers last.now ≡ lasts (rows top.now bot.now)) }
     ensures { result ≡ density (rows top.now bot.now) }
 {
     let w = top.len();
@@ -45,24 +47,24 @@ fn chain_of(top: &[u32], bot: &[u32], items: &[u32], queue: &mut [u32]) -> u32
 }
 
 // The density and the chain of rows that show nets only.
-fn bounds_of_nets(top: &[u32], bot: &[u32]) -> BoundsAnswer
+fn bounds_of_nets(top: &[u32], bot: &[u32]) -> LowerBounds
     requires { NetsOnly (rows top.now bot.now) }
     ensures { result ≡ bounds_of (rows top.now bot.now) }
 {
-    let mut first = [0u32; NET_SLOTS];
-    let mut last = [0u32; NET_SLOTS];
+    let mut first = [Column(0); NET_SLOTS];
+    let mut last = [Column(0); NET_SLOTS];
     find_columns(top, bot, &mut first, &mut last);
     let mut items = [0u32; NET_SLOTS];
     let count = list_spanning(top, bot, &first, &last, &mut items);
     let listed = &items[..count];
     let density = density_of(top, bot, listed, &first, &last);
-    // the first columns are no longer wanted, and their table is lent as room
-    let chain = chain_of(top, bot, listed, &mut first);
-    BoundsAnswer::Bounds { density, chain }
+    let mut queue = [0u32; NET_SLOTS];
+    let chain = chain_of(top, bot, listed, &mut queue);
+    LowerBounds { density, chain }
 }
 
 // The density and the chain of a channel that escapes refusals 3 to 5. Rows without parked pins are taken as they are.
-fn bounds_of_checked(top: &[u32], bot: &[u32]) -> BoundsAnswer
+fn bounds_of_checked(top: &[u32], bot: &[u32]) -> LowerBounds
     requires { Escapes (rows top.now bot.now) }
     ensures { result ≡ bounds_of (rows top.now bot.now) }
 {
@@ -77,11 +79,9 @@ fn bounds_of_checked(top: &[u32], bot: &[u32]) -> BoundsAnswer
 }
 
 // The density and the chain of rows of any lengths and numbers, or the first of refusals 3 to 5 that applies.
-pub fn bounds(top: &[u32], bot: &[u32]) -> BoundsAnswer
+pub fn bounds(top: &[u32], bot: &[u32]) -> Result<LowerBounds, Refusal>
     ensures { result ≡ bounds_answer (rows top.now bot.now) }
 {
-    match crate::check(top, bot) {
-        RowsAnswer::Refused(refusal) => BoundsAnswer::Refused(refusal),
-        RowsAnswer::Accepted => bounds_of_checked(top, bot),
-    }
+    crate::check(top, bot)?;
+    Ok(bounds_of_checked(top, bot))
 }

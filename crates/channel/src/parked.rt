@@ -15,11 +15,8 @@ fn count_pins(row: &[u32], counts: &mut [u32; NET_SLOTS])
         × ((n : ℕ) → n < 512 → get_or counts.old n 0 ≤ widest) }
     ensures { counts.new ≡ tally row.now counts.old }
 {
-    let mut i: usize = 0;
-    while i < row.len() {
-        let n = row[i] as usize;
-        counts[n] += 1;
-        i += 1;
+    for &n in row {
+        counts[n as usize] += 1;
     }
 }
 
@@ -37,11 +34,8 @@ fn any_once(row: &[u32], counts: &[u32; NET_SLOTS]) -> bool
     requires { first_high row.now ≡ 0 }
     ensures { result ≡ any_of (once counts.now) row.now }
 {
-    let mut i: usize = 0;
-    while i < row.len() {
-        let n = row[i] as usize;
-        i += 1;
-        if counts[n] == 1 {
+    for &n in row {
+        if counts[n as usize] == 1 {
             return true;
         }
     }
@@ -66,11 +60,8 @@ fn keep_nets(row: &[u32], counts: &[u32; NET_SLOTS], kept: &mut [u32; WIDEST])
     ensures { kept.new
         ≡ overlay (nets_of_row counts.now row.now) kept.old }
 {
-    let mut i: usize = 0;
-    while i < row.len() {
-        let n = row[i];
+    for (i, &n) in row.iter().enumerate() {
         kept[i] = if counts[n as usize] == 1 { 0 } else { n };
-        i += 1;
     }
 }
 

@@ -1,50 +1,46 @@
 // The check of two rows of any lengths and any numbers: refusals 3 to 5, in rising number.
-ghost use Rattle.std.specs.Prelude.{◌≡◌};
+ghost use Rattle.std.specs.Prelude.{◌≡◌, ◌↔◌, length, find, IsOk};
+ghost use Rattle.lists.specs.Lists.{up_to};
 ghost use Rattle.channel.specs.Channel.{rows};
-ghost use Rattle.channel.specs.Answers.{rows_answer};
-ghost use Rattle.channel.specs.Rows.{first_high};
+ghost use Rattle.channel.specs.Answers.{Escapes, rows_answer};
+ghost use Rattle.channel.specs.Rows.{high};
 
-use crate::RowsAnswer;
 use grid::{HIGHEST_NET, WIDEST};
 use refusal::Refusal;
 
-// The place, from 1, of the first number over 511 in a row, or 0 if there is none.
-fn first_high(row: &[u32]) -> usize
-    ensures { result ≡ first_high row.now }
+// The place, from 1, of the first number over 511 in a row.
+fn first_high(row: &[u32]) -> Option<usize>
+    ensures { result ≡ find (high row.now) (up_to (length row.now)) }
 {
-    let mut i: usize = 0;
-    while i < row.len() {
-        if HIGHEST_NET < row[i] {
-            return i + 1;
+    for (i, &n) in row.iter().enumerate() {
+        if HIGHEST_NET < n {
+            return Some(i + 1);
         }
-        i += 1;
     }
-    0
+    None
 }
 
 // Accepts two rows, or refuses them with the first of refusals 3 to 5 that applies. Time is linear in the rows.
-pub fn check(top: &[u32], bot: &[u32]) -> RowsAnswer
-    ensures { result ≡ rows_answer (rows top.now bot.now) }
+pub fn check(top: &[u32], bot: &[u32]) -> Result<(), Refusal>
+    ensures answer { result ≡ rows_answer (rows top.now bot.now) }
+    ensures accepted { IsOk result ↔ Escapes (rows top.now bot.now) }
 {
     let a = top.len();
     let b = bot.len();
     if WIDEST < a || WIDEST < b {
-        return RowsAnswer::Refused(Refusal::TooWide(WIDEST + 1));
+        return Err(Refusal::TooWide(WIDEST + 1));
     }
     if a != b {
-        let shorter = if a < b { a } else { b };
-        return RowsAnswer::Refused(Refusal::Uneven(shorter + 1));
+        return Err(Refusal::Uneven(a.min(b) + 1));
     }
     if a == 0 {
-        return RowsAnswer::Refused(Refusal::Uneven(1));
+        return Err(Refusal::Uneven(1));
     }
-    let high = first_high(top);
-    if high != 0 {
-        return RowsAnswer::Refused(Refusal::HighNet(high));
+    if let Some(place) = first_high(top) {
+        return Err(Refusal::HighNet(place));
     }
-    let low = first_high(bot);
-    if low != 0 {
-        return RowsAnswer::Refused(Refusal::HighNet(a + low));
+    if let Some(place) = first_high(bot) {
+        return Err(Refusal::HighNet(a + place));
     }
-    RowsAnswer::Accepted
+    Ok(())
 }

@@ -12,10 +12,8 @@ pub fn alone(forest: &mut [u32])
     requires { length forest.old ≤ half }
     ensures { forest.new ≡ from 0 (length forest.old) }
 {
-    let mut i: usize = 0;
-    while i < forest.len() {
+    for i in 0..forest.len() {
         forest[i] = i as u32;
-        i += 1;
     }
 }
 
@@ -70,10 +68,8 @@ pub fn flatten(forest: &mut [u32])
     requires { Forest forest.old }
     ensures { forest.new ≡ map (root_of forest.old) (from 0 (length forest.old)) }
 {
-    let mut i: usize = 0;
-    while i < forest.len() {
+    for i in 0..forest.len() {
         let up = parent(forest, i);
         forest[i] = low(forest[up]);
-        i += 1;
     }
 }

@@ -60,9 +60,7 @@ pub fn sweep(starts: &mut [u32], forest: &mut [u32])
     ensures { Swept starts.old forest.old starts.new forest.new }
 {
     let mut furthest: u32 = 0;
-    let mut start: usize = 0;
-    while start < starts.len() {
+    for start in 0..starts.len() {
         furthest = pass(starts, forest, start, furthest);
-        start += 1;
     }
 }

@@ -1,17 +1,13 @@
--- 02, Req 14: the refusals of the calls on a draft, in their order and with their places, the answers, and what the
+-- SCOPE, Req 14: the refusals of the calls on a draft, in their order and with their places, the answers, and what the
 -- lent words then hold.
-use Rattle.std.specs.Prelude.{ℕ, List, [], ◌∷◌, Bool, not, ◌&&◌, length, ltb, leb}
+use Rattle.std.specs.Prelude.{ℕ, List, [], ◌∷◌, Bool, not, ◌&&◌, length, ltb, leb, Result}
 use Rattle.std.proofs.Math.Option.{Option, none, some}
 use Rattle.lists.specs.Lists.{within}
 use Rattle.refusal.specs.declared.Refusal.{Refusal}
 use Rattle.refusal.specs.declared.Refusal.TheVariants.{BadSpan, AlreadyHere, NotHere}
-use Rattle.refusal.specs.Refusals.{Told, told_refusal, told_values, refuse_if, ◌or_else◌, answered}
+use Rattle.refusal.specs.Refusals.{Told, refuse_if, ◌or_else◌, ok_unless, told}
 use Rattle.refusal.specs.Trays.{draft_tray, short_tray}
 use Rattle.channel.specs.Channel.{highest_net, widest}
-use Rattle.draft.specs.declared.DraftAnswer.{DraftAnswer}
-use Rattle.draft.specs.declared.DraftAnswer.TheVariants as change
-use Rattle.draft.specs.declared.CountAnswer.{CountAnswer}
-use Rattle.draft.specs.declared.CountAnswer.TheVariants as ask
 use Rattle.draft.specs.Marks.{is_here, arrived_in, left_from, cleared}
 
 -- 21 is "for a number outside 1 to 511 or columns not rising within 1 to 512": a number inside
@@ -42,11 +38,11 @@ unfoldable pub leave_refusal : List ℕ → ℕ → Option Refusal
 leave_refusal words n = short_draft words or_else leaving_refusal (is_here words n) n
 
 -- the answer of a call that changes the draft, and of one that asks
-abbrev pub change_answer : Option Refusal → DraftAnswer
-change_answer refusal = answered change.Refused refusal change.Done
+abbrev pub change_answer : Option Refusal → Result (Unit {0}) Refusal
+change_answer refusal = ok_unless refusal tt
 
-abbrev pub ask_answer : Option Refusal → ℕ → CountAnswer
-ask_answer refusal k = answered ask.Refused refusal (ask.Count k)
+abbrev pub ask_answer : Option Refusal → ℕ → Result ℕ Refusal
+ask_answer refusal k = ok_unless refusal k
 
 -- "refused calls having no effect"
 unfoldable pub unless : Option Refusal → List ℕ → List ℕ → List ℕ
@@ -62,11 +58,9 @@ leave_after words n = unless (leave_refusal words n) (left_from n words) words
 unfoldable pub clear_after : List ℕ → List ℕ
 clear_after words = unless (short_draft words) (cleared words) words
 
--- both answers in 01's numbers: the value is 0, or the count
-unfoldable pub draft_told : DraftAnswer → Told
-draft_told change.Done = told_values (0 ∷ [])
-draft_told (change.Refused r) = told_refusal r
+-- both answers in the scope's numbers: the value is 0, or the count
+abbrev pub draft_told : Result (Unit {0}) Refusal → Told
+draft_told = told (λ _. 0 ∷ [])
 
-unfoldable pub count_told : CountAnswer → Told
-count_told (ask.Count k) = told_values (k ∷ [])
-count_told (ask.Refused r) = told_refusal r
+abbrev pub count_told : Result ℕ Refusal → Told
+count_told = told (λ k. k ∷ [])

@@ -1,5 +1,5 @@
 -- A call's contract from what it answered and left: under a refusal, and under none.
-use Rattle.std.specs.Prelude.{ℕ, ◌≤◌, ◌<◌, ◌≡◌, refl, length}
+use Rattle.std.specs.Prelude.{ℕ, ◌≤◌, ◌<◌, ◌≡◌, refl, length, Result, Ok, Err}
 use Rattle.std.proofs.Common.{arith, ◌∙◌}
 use Rattle.std.proofs.Math.Path.{sym, ap}
 use mathlib.Core.List.{List, [], ◌∷◌, ◌++◌}
@@ -8,8 +8,6 @@ use Rattle.refusal.specs.declared.Refusal.{Refusal}
 use Rattle.refusal.specs.declared.Refusal.TheVariants.{ShortTray}
 use Rattle.refusal.specs.Refusals.{answered}
 use Rattle.refusal.specs.Trays.{draft_tray}
-use Rattle.draft.specs.declared.DraftAnswer.TheVariants as change
-use Rattle.draft.specs.declared.CountAnswer.TheVariants as ask
 use Rattle.draft.specs.Marks.{LongDraft, count_of, greatest_of, arrived_in, left_from, cleared}
 use Rattle.draft.specs.Answers.{arrive_refusal, leave_refusal, unless}
 use Rattle.draft.specs.Answers.{arrive_after, leave_after, clear_after}
@@ -38,12 +36,12 @@ module _ (words : List ℕ) (n first last : ℕ) where
   arrive-held {words'} held = goes-on-by (arrive n first last) words words' held
 
   pub arrive-refused : {q : Refusal} → arrive_refusal words n first last ≡ some q
-      → ArriveDone words n first last (change.Refused q) words
+      → ArriveDone words n first last (Err q) words
   unfolding answered unless arrive_after
   arrive-refused e = record { answer = rw e; words_held = rw e; goes_on = arrive-held (rw e) }
 
   pub arrive-done : {words' : List ℕ} → arrive_refusal words n first last ≡ none → words' ≡ arrived_in n first last words
-      → ArriveDone words n first last change.Done words'
+      → ArriveDone words n first last (Ok tt) words'
   unfolding answered unless arrive_after
   arrive-done e held = record { answer = rw e; words_held = rw e held; goes_on = arrive-held (rw e held) }
 
@@ -53,12 +51,12 @@ module _ (words : List ℕ) (n : ℕ) where
   leave-held {words'} held = goes-on-by (leave n) words words' held
 
   pub leave-refused : {words' : List ℕ} {q : Refusal} → leave_refusal words n ≡ some q → words' ≡ words
-      → LeaveDone words n (change.Refused q) words'
+      → LeaveDone words n (Err q) words'
   unfolding answered unless leave_after
   leave-refused e held = record { answer = rw e; words_held = rw e held; goes_on = leave-held (rw e held) }
 
   pub leave-done : {words' : List ℕ} → leave_refusal words n ≡ none → words' ≡ left_from n words
-      → LeaveDone words n change.Done words'
+      → LeaveDone words n (Ok tt) words'
   unfolding answered unless leave_after
   leave-done e held = record { answer = rw e; words_held = rw e held; goes_on = leave-held (rw e held) }
 
@@ -67,7 +65,7 @@ module _ (words : List ℕ) where
   unfolding after_call
   clear-held {words'} held = goes-on-by clear words words' held
 
-  pub clear-refused : length words < draft_tray → ClearDone words (change.Refused (ShortTray draft_tray)) words
+  pub clear-refused : length words < draft_tray → ClearDone words (Err (ShortTray draft_tray)) words
   unfolding answered unless clear_after
   clear-refused short =
       let e = short-told words short in
@@ -78,7 +76,7 @@ module _ (words : List ℕ) where
         empty = λ long. absurd (omega (arith, short, long));
       }
 
-  pub clear-done : {words' : List ℕ} → LongDraft words → words' ≡ cleared words → ClearDone words change.Done words'
+  pub clear-done : {words' : List ℕ} → LongDraft words → words' ≡ cleared words → ClearDone words (Ok tt) words'
   unfolding answered unless clear_after
   clear-done long held =
       let e = long-silent words long in
@@ -93,14 +91,14 @@ module _ (words : List ℕ) where
 after-long : {calls : List Call} {words : List ℕ} → After calls words → LongDraft words
 after-long {calls} after = rw after.held (history-long after.start after.began calls)
 
-no-count : {q : Refusal} {k : ℕ} → ask.Refused q ≡ ask.Count k → ⊥
-no-count e = let z : ◌≡◌ {A = ℕ} 0 1 = cc in omega arith
+no-count : {q : Refusal} {k : ℕ} → ◌≡◌ {A = Result ℕ Refusal} (Err q) (Ok k) → ⊥
+no-count e = cc
 
-same_count_lem : {j k : ℕ} → ask.Count j ≡ ask.Count k → j ≡ k
+same_count_lem : {j k : ℕ} → ◌≡◌ {A = Result ℕ Refusal} (Ok j) (Ok k) → j ≡ k
 same_count_lem e = cc
 
 module _ (words : List ℕ) (c : ℕ) where
-  pub count-refused : length words < draft_tray → CountDone words c (ask.Refused (ShortTray draft_tray))
+  pub count-refused : length words < draft_tray → CountDone words c (Err (ShortTray draft_tray))
   unfolding answered
   count-refused short =
       record {
@@ -111,19 +109,19 @@ module _ (words : List ℕ) (c : ℕ) where
       }
 
   pub count-done : LongDraft words → Words64 words → {k : ℕ} → k ≡ count_of words c → k ≤ 512
-      → CountDone words c (ask.Count k)
+      → CountDone words c (Ok k)
   unfolding answered
   count-done long sized {k} counted small =
       record {
-        answer = rw (long-silent words long) (ap ask.Count counted);
+        answer = rw (long-silent words long) (ap Ok counted);
         few = λ j e. let same = same_count_lem e in omega arith;
         marks = λ j e column. sym (same_count_lem e) ∙ (counted ∙ count-marks words c sized long column);
-        promise = λ calls after. ap ask.Count (counted ∙ (ap (λ (ws : List ℕ). count_of ws c) after.held
+        promise = λ calls after. ap Ok (counted ∙ (ap (λ (ws : List ℕ). count_of ws c) after.held
             ∙ (history after.start after.began calls).counts c));
       }
 
 module _ (words : List ℕ) where
-  pub greatest-refused : length words < draft_tray → GreatestDone words (ask.Refused (ShortTray draft_tray))
+  pub greatest-refused : length words < draft_tray → GreatestDone words (Err (ShortTray draft_tray))
   unfolding answered
   greatest-refused short =
       record {
@@ -132,12 +130,12 @@ module _ (words : List ℕ) where
         promise = λ calls after. absurd (let long = after-long after in omega (arith, short));
       }
 
-  pub greatest-done : LongDraft words → {k : ℕ} → k ≡ greatest_of words → k ≤ 512 → GreatestDone words (ask.Count k)
+  pub greatest-done : LongDraft words → {k : ℕ} → k ≡ greatest_of words → k ≤ 512 → GreatestDone words (Ok k)
   unfolding answered
   greatest-done long {k} most small =
       record {
-        answer = rw (long-silent words long) (ap ask.Count most);
+        answer = rw (long-silent words long) (ap Ok most);
         few = λ j e. let same = same_count_lem e in omega arith;
-        promise = λ calls after. ap ask.Count (most ∙ (ap greatest_of after.held
+        promise = λ calls after. ap Ok (most ∙ (ap greatest_of after.held
             ∙ (history after.start after.began calls).whole));
       }

@@ -1,4 +1,4 @@
--- 02, Req 14: "For every list of these calls from an empty draft, each column's count and the greatest equal those
+-- SCOPE, Req 14: "For every list of these calls from an empty draft, each column's count and the greatest equal those
 -- worked out from the nets that have arrived and not left since, refused calls having no effect." The list of calls is
 -- data; what each does to the memory is what its function's contract says, and the spans are counted by the density of
 -- `channel`.
@@ -46,7 +46,7 @@ unfoldable pub after_calls : List ℕ → List Call → List ℕ
 after_calls words [] = words
 after_calls words (call ∷ calls) = after_calls (after_call words call) calls
 
--- what a call on a memory is told, in 01's numbers
+-- what a call on a memory is told, in the scope's numbers
 unfoldable pub call_told : List ℕ → Call → Told
 call_told words (arrive n first last) = draft_told (change_answer (arrive_refusal words n first last))
 call_told words (leave n) = draft_told (change_answer (leave_refusal words n))

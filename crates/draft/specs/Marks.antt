@@ -1,6 +1,6 @@
--- 02, Req 14: "Each column keeps the set of nets over it, one mark a net, and its density is the number of marks." The
--- memory is a list of 64-bit words, eight to a column, of which the words of 512 columns are used: those of column c,
--- counted from 1, begin at place (c - 1) * 8, counted from 0, and net n's mark is digit n % 64 of the (n / 64)th of
+-- SCOPE, Req 14: "Each column keeps the set of nets over it, one mark a net, and its density is the number of marks."
+-- The memory is a list of 64-bit words, eight to a column, of which the words of 512 columns are used: those of column
+-- c, counted from 1, begin at place (c - 1) * 8, counted from 0, and net n's mark is digit n % 64 of the (n / 64)th of
 -- them.
 use Rattle.std.specs.Prelude.{ℕ, ◌+◌, ◌-◌, ◌*◌, ◌/◌, ◌%◌, ◌^◌, ◌≤◌, List, [], ◌∷◌, map, Bool, cond, ◌&&◌, length, get_or, set, take, drop, replicate, eqb}
 use Rattle.std.specs.Int.Bits.{bit_and, bit_or, bit_xor}

@@ -1,5 +1,5 @@
 // All columns of the draft: each of these is one pass, over a net's span or over the 512 columns.
-ghost use Rattle.std.specs.Prelude.{◌≡◌, max, ◌%◌, ◌≤◌};
+ghost use Rattle.std.specs.Prelude.{◌≡◌, ◌%◌, ◌≤◌};
 ghost use Rattle.channel.specs.Channel.{highest_net, widest};
 ghost use Rattle.draft.specs.Marks.{LongDraft, InDraft, marked, without_mark, is_here, greatest_of};
 ghost use Rattle.draft.specs.Marks.{changed_at, arrived_in, left_from, cleared};
@@ -13,10 +13,8 @@ pub fn is_here(words: &[u64], net: Net) -> bool
     requires { LongDraft words.now × (net.0 ≤ highest_net) }
     ensures { result ≡ is_here words.now net.0 }
 {
-    let mut c: u32 = 0;
-    while c < WIDEST as u32 {
-        c += 1;
-        if column::is_marked(words, net, Column(c)) {
+    for before in 0..WIDEST as u32 {
+        if column::is_marked(words, net, Column(before + 1)) {
             return true;
         }
     }
@@ -29,9 +27,7 @@ pub fn mark_span(words: &mut [u64], net: Net, first: Column, last: Column)
         × (last.0 ≤ widest) }
     ensures { words.new ≡ arrived_in net.0 first.0 last.0 words.old }
 {
-    let mut c = first.0 - 1;
-    while c < last.0 {
-        c += 1;
+    for c in first.0..last.0 + 1 {
         column::mark(words, net, Column(c));
     }
 }
@@ -54,18 +50,10 @@ pub fn take_out(words: &mut [u64], net: Net) -> bool
         × (words.new ≡ left_from net.0 words.old) }
 {
     let mut found = false;
-    let mut c: u32 = 0;
-    while c < WIDEST as u32 {
-        c += 1;
+    for c in 1..WIDEST as u32 + 1 {
         found = found | take_off(words, net, Column(c));
     }
     found
-}
-
-fn larger(a: u32, b: u32) -> u32
-    ensures { result ≡ max a b }
-{
-    if a < b { b } else { a }
 }
 
 // The greatest number of marks in a column.
@@ -74,10 +62,8 @@ pub fn greatest_of(words: &[u64]) -> u32
     ensures { (result ≡ greatest_of words.now) × (result ≤ 512) }
 {
     let mut greatest: u32 = 0;
-    let mut c: u32 = 0;
-    while c < WIDEST as u32 {
-        c += 1;
-        greatest = larger(greatest, column::marks_of(words, Column(c)));
+    for c in 1..WIDEST as u32 + 1 {
+        greatest = greatest.max(column::marks_of(words, Column(c)));
     }
     greatest
 }
@@ -87,9 +73,5 @@ pub fn clear_all(words: &mut [u64])
     requires { LongDraft words.old }
     ensures { words.new ≡ cleared words.old }
 {
-    let mut i: usize = 0;
-    while i < DRAFT_TRAY {
-        words[i] = 0;
-        i += 1;
-    }
+    words[..DRAFT_TRAY].fill(0);
 }

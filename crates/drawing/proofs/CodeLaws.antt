@@ -5,7 +5,7 @@ use native.Mathlib.Omega.{arith}
 use Rattle.std.specs.Prelude.{◌≡◌, Bool, false, cond, ◌||◌, get_or, T, eqb}
 use Rattle.std.proofs.Math.Path.{refl, subst, subst⁻¹}
 use Rattle.std.proofs.Common.{sym, ◌∙◌, ap, ltb→lt, lt-ltb, le-ltb}
-use mathlib.Core.List.{List, [], ◌∷◌, map}
+use mathlib.Core.List.{List, [], ◌∷◌}
 use mathlib.Core.List.Memᴰ
 use mathlib.Core.List.{Memᴰ}
 use Rattle.std.proofs.Math.Logic.{⊎_elim}
@@ -16,18 +16,16 @@ use Rattle.lists.specs.Lists.{keep, each, from, head_or, at}
 use Rattle.lists.specs.Tests.{T→true, true→T, fails→false}
 use Rattle.lists.specs.Members.{kept, in-up_to, each_member}
 use Rattle.lists.specs.Ends.{at_suc}
-use Rattle.lists.specs.Arrays.{get_or-made}
+use Rattle.lists.specs.Arrays.{numbered-at}
 use Rattle.grid.specs.declared.Row.{Row}
-use Rattle.grid.specs.declared.Track.{Track}
 use Rattle.grid.specs.declared.Piece.{Piece}
 use Rattle.grid.specs.declared.Piece.TheVariants.{Trunk, Branch, Contact}
 use Rattle.grid.specs.Pieces.{column, track, row}
 use Rattle.grid.specs.Words.{line_of, from_of, to_of}
 use Rattle.channel.specs.Channel.{Channel, width, nets, is_net, has_span, first_column, last_column}
 use Rattle.channel.specs.Channel.{highest_net, stands, has_pin, pin_columns}
-use Rattle.channel.specs.declared.spans.Spans.{Spans}
 use Rattle.channel.specs.Answers.{Escapes}
-use Rattle.channel.specs.Spans.{each512, SpansFound}
+use Rattle.channel.specs.Spans.{each512, Spans, SpansFound}
 use Rattle.channel.specs.Nets.{PinIn, IsNet}
 use Rattle.channel.proofs.Laws.{pin-column, pin-after-first, pin-before-last, pin-in-first, pin-in-last}
 use Rattle.channel.proofs.Laws.{net→pin}
@@ -58,13 +56,13 @@ module _ (ch : Channel) (n c : ℕ) (h : 1 ≤ c) where
   column-array t k low high e d = rw (at-array ch.top c h, at-array ch.bot c h, e, d)
 
 -- the track of a net, in the array of all
-pub track-is : (tracks : List Track) (ps : List Place) → tracks ≡ map track (each512 (track_of ps)) → (n : ℕ)
-    → n ≤ highest_net → get_or tracks n (track 0) ≡ track (track_of ps n)
-track-is tracks ps e n low = rw e (get_or-made track (track_of ps) 512 n (omega arith))
+pub track-is : (tracks : List ℕ) (ps : List Place) → tracks ≡ each512 (track_of ps) → (n : ℕ) → n ≤ highest_net
+    → get_or tracks n 0 ≡ track_of ps n
+track-is tracks ps e n low = numbered-at (track_of ps) 512 e n (omega arith)
 
 -- where the array has each net's track, the layout is the drawing of the places
-pub drawn-by : (ch : Channel) (t : ℕ) (ps : List Place) (tracks : List Track)
-    → tracks ≡ map track (each512 (track_of ps)) → drawn_by ch tracks t ≡ draw ch t ps
+pub drawn-by : (ch : Channel) (t : ℕ) (ps : List Place) (tracks : List ℕ)
+    → tracks ≡ each512 (track_of ps) → drawn_by ch tracks t ≡ draw ch t ps
 unfolding drawn_by draw
 drawn-by ch t ps tracks e = λ i. record { tracks = t; pieces = same i }
   where
@@ -97,11 +95,11 @@ module _ (ch : Channel) (esc : Escapes ch) (n : ℕ) where
 
 -- by its spans, a number with a first column is a net, and stands in its columns
 module _ (ch : Channel) (esc : Escapes ch) (s : Spans) (found : SpansFound ch s) (n : ℕ) (low : n ≤ highest_net) where
-  pub first-is : get_or s.first n (column 0) ≡ column (first_column ch n)
-  first-is = rw found.first (get_or-made column (first_column ch) 512 n (omega arith))
+  pub first-is : get_or s.first n 0 ≡ first_column ch n
+  first-is = numbered-at (first_column ch) 512 found.first n (omega arith)
 
-  pub last-is : get_or s.last n (column 0) ≡ column (last_column ch n)
-  last-is = rw found.last (get_or-made column (last_column ch) 512 n (omega arith))
+  pub last-is : get_or s.last n 0 ≡ last_column ch n
+  last-is = numbered-at (last_column ch) 512 found.last n (omega arith)
 
   pub spans→net : (column_in s.first n ≡ 0 → ⊥) → is_net ch n ≡ true
   spans→net f = first→net ch esc n (λ z. f (rw (column_in, first-is) z))
@@ -229,7 +227,7 @@ module _ (ch : Channel) (esc : Escapes ch) (t k n : ℕ) (few : t ≤ 511) (low 
       let branch : SmallWords (Branch (column (first_column ch n)) (row 0) (row (t + 1))) = omega arith in
       subst SmallWords (sym (Memᴰ.eq_of_singleton m)) branch
 
-module _ (ch : Channel) (tracks : List Track) (t : ℕ) where
+module _ (ch : Channel) (tracks : List ℕ) (t : ℕ) where
   -- what a net draws, by its number
   abbrev pub drawn_net : ℕ → List Piece
   drawn_net n = draw_net ch t (track_in tracks n) n

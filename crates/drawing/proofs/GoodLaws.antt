@@ -106,7 +106,7 @@ module _ (ch : Channel) (esc : Escapes ch) (t : ℕ) (ps : List Place) (f : Fill
       i j a.piece b.piece a.place b.place
       (a.trunk, (a.pin_of, a.net, a.joined)) (b.trunk, (b.pin_of, b.net, b.joined))
 
--- 02, Req 04: no piece is joined to a parked pin, since each is drawn by a net, whose pins alone it is joined to
+-- SCOPE, Req 04: no piece is joined to a parked pin, since each is drawn by a net, whose pins alone it is joined to
 pub parked-bare : (ch : Channel) → Escapes ch → (t : ℕ) (ps : List Place) → FilledBy (net_items ch) t ps
     → (x : Pin) → T (is_parked ch (net_of ch x)) → (p : Piece) → Memᴰ p (draw ch t ps).pieces
     → Joined ch (draw ch t ps) (copper p) (pin x) → ⊥

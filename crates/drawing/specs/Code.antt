@@ -2,9 +2,7 @@
 use Rattle.std.specs.Prelude.{ℕ, ◌+◌, ◌*◌, ◌≤◌, ◌≡◌, length, get_or}
 use mathlib.Core.List.{List, Memᴰ}
 use Rattle.lists.specs.Lists.{overlay}
-use Rattle.grid.specs.declared.Column.{Column}
-use Rattle.grid.specs.declared.Track.{Track}
-use Rattle.grid.specs.Pieces.{column, track, Layout}
+use Rattle.grid.specs.Pieces.{Layout}
 use Rattle.channel.specs.Channel.{Channel, width, spanning, first_column, last_column}
 use Rattle.channel.specs.Answers.{Escapes}
 use Rattle.channel.specs.Nets.{IsNet}
@@ -12,24 +10,24 @@ use Rattle.boardfile.specs.Encode.{encode}
 use Rattle.drawing.specs.Draw.{draw_nets}
 
 -- the column and the track of net n, which stand at place n, counted from 0
-abbrev pub column_in : List Column → ℕ → ℕ
-column_in columns n = (get_or columns n (column 0)).0
+abbrev pub column_in : List ℕ → ℕ → ℕ
+column_in columns n = get_or columns n 0
 
-abbrev pub track_in : List Track → ℕ → ℕ
-track_in tracks n = (get_or tracks n (track 0)).0
+abbrev pub track_in : List ℕ → ℕ → ℕ
+track_in tracks n = get_or tracks n 0
 
 -- the layout drawn by these tracks
-unfoldable pub drawn_by : Channel → List Track → ℕ → Layout
+unfoldable pub drawn_by : Channel → List ℕ → ℕ → Layout
 drawn_by ch tracks t = record { tracks = t; pieces = draw_nets ch t (track_in tracks) }
 
 -- the channel escapes refusals 3 to 5, and each net with a span has a track of 1 to t, t being at most 511
-pub record Tracked (ch : Channel) (tracks : List Track) (t : ℕ) : Type 0 where
+pub record Tracked (ch : Channel) (tracks : List ℕ) (t : ℕ) : Type 0 where
   pub escapes : Escapes ch
   pub few : t ≤ 511
   pub tracked : (n : ℕ) → Memᴰ n (spanning ch) → (1 ≤ track_in tracks n) × (track_in tracks n ≤ t)
 
 -- what `draw_board` asks: a board with room for the header and the pieces, and no more pieces than the header can count
-pub record Drawable (ch : Channel) (tracks : List Track) (t : ℕ) (board : List ℕ) : Type 0 where
+pub record Drawable (ch : Channel) (tracks : List ℕ) (t : ℕ) (board : List ℕ) : Type 0 where
   pub tracked : Tracked ch tracks t
   pub few : length (drawn_by ch tracks t).pieces ≤ 4095
   pub long : 4 + 4 * length (drawn_by ch tracks t).pieces ≤ length board

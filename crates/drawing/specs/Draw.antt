@@ -1,4 +1,4 @@
--- 01, "Drawing": the pieces of a filled channel, in their order.
+-- SCOPE, "Drawing": the pieces of a filled channel, in their order.
 use Rattle.std.specs.Prelude.{ℕ, ◌+◌, List, [], ◌∷◌, cond, eqb}
 use Rattle.lists.specs.Lists.{each, at}
 use Rattle.grid.specs.declared.Piece.{Piece}

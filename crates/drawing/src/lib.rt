@@ -3,13 +3,13 @@
 
 ghost use Rattle.std.specs.Prelude.{◌≡◌, ◌+◌, ◌*◌, ◌≤◌, ◌<◌, [], ◌∷◌, cond, length, eqb};
 ghost use Rattle.grid.specs.Pieces.{row};
+ghost use Rattle.grid.specs.Numbers.{column_numbers, track_numbers};
 ghost use Rattle.channel.specs.Channel.{rows, stands};
-ghost use Rattle.channel.specs.Spans.{SpansFound};
+ghost use Rattle.channel.specs.Spans.{SpansFound, spans};
 ghost use Rattle.drawing.specs.Draw.{draw_column, draw_span, draw_net};
 ghost use Rattle.drawing.specs.Putting.{Room, Put};
 ghost use Rattle.drawing.specs.Code.{StandsIn, drawn_by, Drawable, BoardDrawn};
 
-use channel::Spans;
 use grid::{Column, NET_SLOTS, Net, Piece, Row, Track};
 
 // Puts a piece behind the first `count` pieces of a board; answers how many there are then.
@@ -37,7 +37,9 @@ fn end_row(pin: u32, n: Net, edge: u32, k: Track) -> Row
     if pin == n.0 { Row(edge) } else { Row(k.0) }
 }
 
-// The branch and the contact of net n in its pin column c, where its trunk lies on track k of t.
+// The branch and the contact of net n in its pin column c, where its trunk lies on track k of t. Inlined, it would take
+// the registers of the loop over columns, most of which have no pin of the net.
+#[inline(never)]
 fn draw_column(
     board: &mut [u8],
     count: u32,
@@ -105,12 +107,10 @@ fn draw_span(
             last,
         },
     );
-    let mut c = first.0;
-    while c <= last.0 {
+    for c in first.0..last.0 + 1 {
         if has_pin(top, bot, n, Column(c)) {
             drawn = draw_column(board, drawn, top, bot, n, k, t, Column(c));
         }
-        c += 1;
     }
     drawn
 }
@@ -153,32 +153,28 @@ fn draw_net(
 pub fn draw_board(
     top: &[u32],
     bot: &[u32],
-    spans: Spans,
-    tracks: [Track; NET_SLOTS],
+    first: &[Column; NET_SLOTS],
+    last: &[Column; NET_SLOTS],
+    tracks: &[Track; NET_SLOTS],
     t: u32,
     board: &mut [u8],
 ) -> u32
-    requires { Drawable (rows top.now bot.now) tracks t board.old
-        × SpansFound (rows top.now bot.now) spans }
+    requires { Drawable (rows top.now bot.now) (track_numbers tracks.now) t board.old
+        × SpansFound (rows top.now bot.now) (spans (column_numbers first.now) (column_numbers last.now)) }
     ensures { BoardDrawn (rows top.now bot.now)
-        (drawn_by (rows top.now bot.now) tracks t)
+        (drawn_by (rows top.now bot.now) (track_numbers tracks.now) t)
         board.old result board.new }
 {
-    let firsts = spans.first;
-    let lasts = spans.last;
     let upper = channel::highest_number(top, 0);
     let highest = channel::highest_number(bot, upper);
     let mut count: u32 = 0;
-    let mut n: u32 = 1;
-    while n <= highest {
+    for n in 1..highest + 1 {
         let i = n as usize;
-        let first = firsts[i];
-        if first.0 != 0 {
-            let last = lasts[i];
+        let begin = first[i];
+        if begin.0 != 0 {
             let k = tracks[i];
-            count = draw_net(board, count, top, bot, Net(n), k, t, first, last);
+            count = draw_net(board, count, top, bot, Net(n), k, t, begin, last[i]);
         }
-        n += 1;
     }
     boardfile::put_header(board, top.len() as u32, t, count);
     count

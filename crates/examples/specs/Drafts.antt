@@ -1,4 +1,5 @@
--- 02, Req 14: nets that come and go, by one computed check of the nets and one of the words; and so of the memory.
+-- SCOPE, Req 14: nets that come and go, by one computed check of the nets and one of the words; and so of the memory.
+use Rattle.refusal.specs.Refusals as refusals
 use Rattle.std.specs.Prelude.{ℕ, ◌≡◌, refl, List, [], ◌∷◌, ◌++◌, map, true, replicate}
 use Rattle.std.proofs.Common.{◌∙◌}
 use Rattle.std.specs.Int.Count.{ones}
@@ -8,7 +9,7 @@ use Rattle.refusal.specs.Trays.{draft_tray}
 use Rattle.channel.specs.Density.{spans_over}
 use Rattle.draft.specs.Marks.{is_set, with_mark, without_mark, marked, marks_of, count_of, changed, zeros}
 use Rattle.draft.specs.Marks.{arrived_in, left_from}
-use Rattle.draft.specs.Answers.{arrival_refusal, leaving_refusal, draft_told, count_told}
+use Rattle.draft.specs.Answers.{arrival_refusal, leaving_refusal}
 use Rattle.draft.specs.History.{Call, arrive, leave, count, whole, clear, after_calls, call_told, nets_after}
 use Rattle.draft.specs.History.{nets_after_calls, nets_here, span_count, span_greatest, nets_told}
 use Rattle.draft.specs.HistoryLaws.{history-of-zeros}
@@ -49,14 +50,14 @@ pub drafts :
     ≡ true
 unfolding
     keep any_of all_of from greatest refuse_if ◌or_else◌ answered spans_over
-    arrival_refusal leaving_refusal draft_told count_told nets_after nets_after_calls span_count span_greatest nets_told
+    arrival_refusal leaving_refusal refusals.told nets_after nets_after_calls span_count span_greatest nets_told
 drafts = refl
 
 -- so 4,096 words that were 0 are told the same after these calls
 pub held : call_told (after_calls (zeros draft_tray) again) whole ≡ told_values (1 ∷ [])
 unfolding
     keep any_of from greatest refuse_if ◌or_else◌ answered spans_over
-    arrival_refusal leaving_refusal count_told nets_after nets_after_calls span_count span_greatest nets_told
+    arrival_refusal leaving_refusal refusals.told nets_after nets_after_calls span_count span_greatest nets_told
 held = (history-of-zeros again).answers whole ∙ refl
 
 -- the words of three columns: net 69 has digit 5 of each column's second word

@@ -1,4 +1,5 @@
--- 02, Req 05: the ring with the fewest nets, beside the one that the walk of 01 shows, by one computed check.
+-- SCOPE, Req 05: the ring with the fewest nets, beside the one that the fill's walk shows, by one computed check.
+use Rattle.refusal.specs.Refusals as refusals
 use Rattle.std.specs.Prelude.{ℕ, ◌≡◌, refl, List, [], ◌∷◌, true}
 use Rattle.lists.specs.Lists.{keep, each, any_of, all_of, from, head_or, last_or, greatest, least, at}
 use Rattle.refusal.specs.Refusals.{refuse_if, refuse_at_first, ◌or_else◌, answered, filled_unless}
@@ -97,5 +98,5 @@ unfolding
     is_placed track_of fits clear_below scan or_else fill_from fill_items first_drop from_visit walk ring_of ring_numbers
     fill_order net_items fill ring_shown
     leads returning fewest home_drop homeward fewest_ring
-    fewest_refusal pairs_answer fewest_answer fewest_after fewest_told
+    fewest_refusal pairs_answer fewest_answer fewest_after refusals.told
 fewest-rings = refl

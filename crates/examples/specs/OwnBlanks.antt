@@ -1,4 +1,5 @@
--- 02, Req 03: what is answered for a customer's own table, by one computed check.
+-- SCOPE, Req 03: what is answered for a customer's own table, by one computed check.
+use Rattle.refusal.specs.Refusals as refusals
 use Rattle.std.specs.Prelude.{ℕ, ◌≡◌, refl, List, [], ◌∷◌, true}
 use Rattle.lists.specs.Lists.{keep, from, up_to, head_or, last_or, at}
 use Rattle.refusal.specs.Refusals.{refuse_if, refuse_at_first, ◌or_else◌, answered}
@@ -46,5 +47,5 @@ pub own-blanks :
     ≡ true
 unfolding
     keep from head_or last_or at refuse_if refuse_at_first ◌or_else◌ answered
-    stock smallest_for no_blank blank_told bad_entry bad_table no_stock own_refusal own_answer
+    stock smallest_for no_blank refusals.told bad_entry bad_table no_stock own_refusal own_answer
 own-blanks = refl

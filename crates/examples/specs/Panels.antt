@@ -1,4 +1,5 @@
--- 02, Req 09: two lists on one panel, by one computed check.
+-- SCOPE, Req 09: two lists on one panel, by one computed check.
+use Rattle.refusal.specs.Refusals as refusals
 use Rattle.std.specs.Prelude.{ℕ, ◌≡◌, refl, List, [], ◌∷◌, ◌++◌, map, true}
 use Rattle.lists.specs.Lists.{keep, each, any_of, all_of, from, head_or, last_or, greatest, least, at}
 use Rattle.refusal.specs.Refusals.{refuse_if, refuse_at_first, ◌or_else◌, answered, filled_unless}
@@ -99,5 +100,5 @@ unfolding
     pin_count is_net pin_columns first_column last_column nets has_span spanning starting spans_over spans_of density
     above drops depth chain too_wide uneven high_net rows_refusal
     is_placed track_of fits clear_below scan or_else fill_from fill_items fill_order net_items fill
-    highest raised joined lists_refusal panel_wide high_numbers panel_full panel_refusal join_refusal join_answer join_told
+    highest raised joined lists_refusal panel_wide high_numbers panel_full panel_refusal join_refusal join_answer refusals.told
 panels = refl

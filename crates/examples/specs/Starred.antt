@@ -1,6 +1,7 @@
--- 01, "Bench examples (* proved)", and 02, Reqs 01, 02, 04 and 07: A to J, and K, come out of the definitions as the
+-- SCOPE, "Bench examples", and Reqs 01, 02, 04 and 07: A to J, and K, come out of the definitions as the
 -- paper prints them, padded lists with CR LF as Req 01 says, lists turned over as Req 02 says, channels with parked
 -- pins as Req 04 says, and looks as Req 07 says, by one computed check.
+use Rattle.refusal.specs.Refusals as refusals
 use Rattle.std.specs.Prelude.{ℕ, zero, suc, ◌≡◌, refl, List, [], ◌∷◌, ◌++◌, map, Bool, true, false, ◌&&◌, take, drop, set, eqb}
 use Rattle.lists.specs.Lists.{keep, each, any_of, all_of, from, head_or, last_or, greatest, least, at}
 use Rattle.lists.specs.Bytes.{bytes, digits_of}
@@ -82,7 +83,7 @@ text_f = bytes "TOP 0\nBOT 0\n"
 abbrev text_g : List ℕ
 text_g = bytes "TOP 5\nBOT 5\n"
 
--- 02, Req 01: A as an order screen pads it into columns, its lines ended in two bytes; and with pads and ends that
+-- SCOPE, Req 01: A as an order screen pads it into columns, its lines ended in two bytes; and with pads and ends that
 -- differ from number to number and from line to line
 abbrev padded_a : List ℕ
 padded_a = bytes "TOP   0   1   2   3\r\nBOT   1   2   0   3\r\n"
@@ -94,7 +95,7 @@ ragged_a = bytes "TOP 0  1 2    3\nBOT  1 2 0 3\r\n"
 abbrev rows_of : List ℕ → List ℕ
 rows_of text = (text_channel text).top ++ (text_channel text).bot
 
--- 02, Req 04: "example L becomes a board with no tracks"
+-- SCOPE, Req 04: "example L becomes a board with no tracks"
 abbrev text_l : List ℕ
 text_l = bytes "TOP 1 0\nBOT 0 0\n"
 
@@ -124,7 +125,7 @@ tracks text = map (λ r. r.track.0) (records_made (text_channel text) (fill (tex
 abbrev pairs : List ℕ → List ℕ
 pairs text = ring_numbers (ring_shown (text_channel text) (fill (text_channel text)))
 
--- 02, Req 07: the looks that the router answers, those told of rows alone, and their ceiling
+-- SCOPE, Req 07: the looks that the router answers, those told of rows alone, and their ceiling
 abbrev looked : List ℕ → List ℕ
 looked text =
     let ch = text_channel text in
@@ -151,7 +152,7 @@ judged_with text change =
     let l = layout_drawn ch (fill ch) in
     layout_judged ch (record { tracks = l.tracks; pieces = change l.pieces })
 
--- 02, Req 02: the smallest list for which the left-edge rule takes more tracks one way up than the other
+-- SCOPE, Req 02: the smallest list for which the left-edge rule takes more tracks one way up than the other
 abbrev lopsided : List ℕ
 lopsided = bytes "TOP 1 2 1 3 3\nBOT 0 0 0 0 2\n"
 
@@ -284,7 +285,7 @@ unfolding
     kind_of left right low high over flip line_of from_of to_of fields_right make_piece kinds_meet pin_meets covers touches
     pin_count is_net pin_columns first_column last_column nets has_span spanning
     spans_over spans_of density above drops depth chain
-    too_wide uneven high_net rows_refusal bounds_answer bounds_told column_of row_of net_of pin_touches
+    too_wide uneven high_net rows_refusal bounds_answer refusals.told column_of row_of net_of pin_touches
     after_number first_digit line_step top_step bot_step step at_end read_from read_text garbled_refusal channel_of text_refusal
     is_placed track_of fits clear_below scan or_else fill_from fill_items first_drop from_visit walk ring_of ring_numbers starting
     looks_from item_looks ceiling looks
@@ -295,7 +296,7 @@ unfolding
     floating fault_at_first finding
     wrong_board judge_refusal judged judge_answer fault_number fault_place judge_told stock smallest_for no_blank
     branch_in draw_column draw_span draw_straight draw_net draw ring_shown tangled layout_drawn records_made route_refusal
-    route_answer filled_under7 ring_after looks_unless looks_answered route_told looks_answer ceiling_answer looks_told
+    route_answer filled_under7 ring_after looks_unless looks_answered looks_answer ceiling_answer
     textLine refused_line told_line ring_lines board_line bound_line net_line end_line
     within_limit of_pin_list of_filled listing listing_output board_output judge_lines judge_output
 starred = refl

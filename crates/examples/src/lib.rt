@@ -1,2 +1,2 @@
-// The bench examples of the scope paper, computed from the definitions. See specs/.
+// The bench examples of the scope, computed from the definitions. See specs/.
 #![tactic(auto)]

@@ -1,4 +1,4 @@
--- 02, Req 02, "The board turned over": the same copper, seen with TOP and BOT exchanged.
+-- SCOPE, Req 02, "The board turned over": the same copper, seen with TOP and BOT exchanged.
 use Rattle.std.specs.Prelude.{ℕ, ◌+◌, ◌-◌, map}
 use Rattle.grid.specs.declared.Piece.{Piece}
 use Rattle.grid.specs.declared.Piece.TheVariants.{Trunk, Branch, Contact}

@@ -1,4 +1,5 @@
 pub mod Pieces
+pub mod Numbers
 pub mod Words
 pub mod WordLaws
 pub mod Touching

@@ -1,5 +1,5 @@
--- 01, "Wiring rule": a piece of copper, by its kind and by the box of grid points that it covers. Everything outside
--- this file reads a piece through these.
+-- SCOPE, "Wiring rule": a piece of copper, by its kind and by the box of grid points that it covers. Everything
+-- outside this file reads a piece through these.
 use Rattle.std.specs.Prelude.{ℕ, ◌+◌, ◌≤◌, ◌<◌, List}
 use Rattle.grid.specs.declared.Piece.{Piece}
 use Rattle.grid.specs.declared.Piece.TheVariants.{Trunk, Branch, Contact}
@@ -20,7 +20,7 @@ row y = record { 0 = y }
 abbrev pub net : ℕ → Net
 net n = record { 0 = n }
 
--- 01, "Board file": kind 0 trunk, 1 branch, 2 contact
+-- SCOPE, "Board file": kind 0 trunk, 1 branch, 2 contact
 abbrev pub trunk_kind : ℕ
 trunk_kind = 0
 

@@ -1,4 +1,4 @@
--- 01, "Wiring rule": what a piece covers, and when two pieces touch; then the same as tests that compute.
+-- SCOPE, "Wiring rule": what a piece covers, and when two pieces touch; then the same as tests that compute.
 use Rattle.std.specs.Prelude.{ℕ, ◌≤◌, Bool, ◌&&◌, ◌||◌, T, leb, eqb}
 use Rattle.lists.specs.Lists.{within}
 use Rattle.grid.specs.declared.Piece.{Piece}

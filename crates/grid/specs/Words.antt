@@ -1,4 +1,4 @@
--- 01, "Board file": a piece in the file's words, which are its kind, line, from and to.
+-- SCOPE, "Board file": a piece in the file's words, which are its kind, line, from and to.
 use Rattle.std.specs.Prelude.{ℕ, ◌+◌, Bool, false, cond, ◌&&◌, leb, ltb, eqb}
 use Rattle.lists.specs.Lists.{within}
 use Rattle.grid.specs.declared.Piece.{Piece}

@@ -1,5 +1,5 @@
--- 01, "Spans and constraints": how many items hold a column, and the most of them, over any list of items with a first
--- and a last column; and what the code that counts them asks.
+-- SCOPE, "Spans and constraints": how many items hold a column, and the most of them, over any list of items with a
+-- first and a last column; and what the code that counts them asks.
 use Rattle.std.specs.Prelude.{ℕ, zero, suc, ◌+◌, ◌-◌, ◌≤◌, ◌<◌, ◌≡◌, length, get_or, replicate}
 use mathlib.Core.List.{List, map, Memᴰ}
 use Rattle.lists.specs.Lists.{keep, up_to, greatest, within}

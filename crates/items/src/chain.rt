@@ -15,10 +15,7 @@ fn queue_lowest(items: &[u32], under: &[u16], queue: &mut [u32]) -> usize
         ≡ overlay (keep (λ n. eqb (get_or under.now n 0) 0) items.now) queue.old) }
 {
     let mut queued: usize = 0;
-    let mut i: usize = 0;
-    while i < items.len() {
-        let n = items[i];
-        i += 1;
+    for &n in items {
         if under[n as usize] == 0 {
             queue[queued] = n;
             queued += 1;

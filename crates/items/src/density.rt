@@ -2,21 +2,21 @@
 ghost use Rattle.std.specs.Prelude.{◌≡◌, ◌-◌, map, length};
 ghost use Rattle.lists.specs.Lists.{up_to, greatest};
 ghost use Rattle.lists.specs.Counts.{tally};
+ghost use Rattle.grid.specs.Numbers.{column_numbers};
 ghost use Rattle.items.specs.Order.{by_number};
 ghost use Rattle.items.specs.Density.{densest, holding_by, Countable, Sweepable, Spanned};
 
+use grid::Column;
+
 // Counts each item one more time in its column.
-fn count_columns(items: &[u32], columns: &[u32], counts: &mut [u32])
-    requires { Countable items.now columns.now counts.old }
+fn count_columns(items: &[u32], columns: &[Column], counts: &mut [u32])
+    requires { Countable items.now (column_numbers columns.now) counts.old }
     ensures { counts.new
-        ≡ tally (map (by_number columns.now) items.now) counts.old }
+        ≡ tally (map (by_number (column_numbers columns.now)) items.now) counts.old }
 {
-    let mut i: usize = 0;
-    while i < items.len() {
-        let n = items[i] as usize;
-        let c = columns[n] as usize;
+    for &n in items {
+        let c = columns[n as usize].0 as usize;
         counts[c] += 1;
-        i += 1;
     }
 }
 
@@ -29,14 +29,10 @@ fn sweep(starts: &[u32], ends: &[u32]) -> u32
 {
     let mut carried: u32 = 0;
     let mut most: u32 = 0;
-    let mut c: usize = 1;
-    while c < starts.len() {
+    for c in 1..starts.len() {
         let here = carried + starts[c];
         carried = here - ends[c];
-        c += 1;
-        if most < here {
-            most = here;
-        }
+        most = most.max(here);
     }
     most
 }
@@ -45,19 +41,19 @@ fn sweep(starts: &[u32], ends: &[u32]) -> u32
 // 0, all of them 0, and are left with the counts.
 pub fn greatest_density(
     items: &[u32],
-    first: &[u32],
-    last: &[u32],
+    first: &[Column],
+    last: &[Column],
     starts: &mut [u32],
     ends: &mut [u32],
 ) -> u32
-    requires { Spanned items.now first.now last.now starts.old ends.old }
+    requires { Spanned items.now (column_numbers first.now) (column_numbers last.now) starts.old ends.old }
     ensures { (result
-        ≡ densest (by_number first.now) (by_number last.now) items.now
+        ≡ densest (by_number (column_numbers first.now)) (by_number (column_numbers last.now)) items.now
         (length starts.old - 1))
         × (starts.new
-        ≡ tally (map (by_number first.now) items.now) starts.old)
+        ≡ tally (map (by_number (column_numbers first.now)) items.now) starts.old)
         × (ends.new
-        ≡ tally (map (by_number last.now) items.now) ends.old) }
+        ≡ tally (map (by_number (column_numbers last.now)) items.now) ends.old) }
 {
     count_columns(items, first, starts);
     count_columns(items, last, ends);

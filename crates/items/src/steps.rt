@@ -17,15 +17,12 @@ pub fn link_steps(
     ensures { StepsLinked upper.now lower.now head.new next.new
         under.new }
 {
-    let mut i = upper.len();
-    while 0 < i {
-        let c = i;
-        i -= 1;
+    for i in (0..upper.len()).rev() {
         let a = upper[i] as usize;
         let b = lower[i] as usize;
         if (a != 0) & (b != 0) & (a != b) {
-            next[c] = head[b];
-            head[b] = c as u16;
+            next[i + 1] = head[b];
+            head[b] = (i + 1) as u16;
             under[a] += 1;
         }
     }

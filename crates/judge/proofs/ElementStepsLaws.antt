@@ -17,7 +17,8 @@ use Rattle.classes.specs.FlatLaws.{alone-forest}
 use Rattle.classes.specs.Lines.{AllJoined}
 use Rattle.channel.specs.Channel.{Channel, width}
 use Rattle.boardfile.specs.Open.{file_count, file_layout}
-use Rattle.judge.specs.declared.faults.Found.{Found}
+use Rattle.judge.specs.declared.Fault.{Fault}
+use Rattle.std.specs.declared.option.Option as found
 use Rattle.judge.specs.Finding.{marks, finding}
 use Rattle.judge.proofs.SameFindingLaws.{SameClasses, same-finding}
 use Rattle.judge.specs.Ranges.{range_on}
@@ -164,7 +165,7 @@ module _ (ch : Channel) (board : List ℕ) (t : ℕ) (s₀ s : List ℕ) (ready 
           }
 
       -- what is found by the roots is the finding
-      pub found-finding : (r : Found) → Finds ch flat r → r ≡ found_of (finding ch (file_layout board))
+      pub found-finding : (r : found.Option Fault) → Finds ch flat r → r ≡ found_of (finding ch (file_layout board))
       found-finding r h =
           let z = flat-size in
           let p = file-pieces board in

@@ -18,8 +18,8 @@ use Rattle.channel.specs.Channel.{Channel, highest_net, width, positions}
 use Rattle.channel.specs.Answers.{Escapes}
 use Rattle.wiring.specs.Pins.{Pin, top, bot, net_of, pin_at}
 use Rattle.judge.specs.declared.Fault.{Fault}
+use Rattle.std.specs.Prelude.{Some, None}
 use Rattle.judge.specs.declared.Fault.TheVariants.{Short, Open, Floating}
-use Rattle.judge.specs.declared.faults.Found.TheVariants as found
 use Rattle.classes.specs.Halves.{low_half, high_half, number_of, low_small, low-number, high-number, high-none}
 use Rattle.judge.specs.PinPlaces.{position-net}
 use Rattle.judge.specs.Finding.{pins, first_of_net, shorts, opens, floating, fault_at_first}
@@ -164,7 +164,7 @@ module _ (ch : Channel) (ms : List ℕ) where
 
 -- the searches one after the other, each asked where those before it found nothing
 module _ {ch : Channel} {s s' : List ℕ} {p : ℕ} (short : ShortFound ch s p s') where
-  pub finds-short : (p ≡ 0 → ⊥) → Finds ch s (found.Fault (Short p))
+  pub finds-short : (p ≡ 0 → ⊥) → Finds ch s (Some (Short p))
   unfolding found_of found_by
   finds-short here l n = sym (ap found_of (at_first Short (shorts ch (marks_in s)) _ p short.first here))
 
@@ -188,7 +188,7 @@ module _ {ch : Channel} {s s' : List ℕ} {p : ℕ} (short : ShortFound ch s p s
     first-opened : q ≡ head_or 0 (opens ch (marks_in s))
     first-opened = rw short.marks at opened
 
-    pub finds-open : (q ≡ 0 → ⊥) → Finds ch s (found.Fault (Open q))
+    pub finds-open : (q ≡ 0 → ⊥) → Finds ch s (Some (Open q))
     unfolding found_of found_by
     finds-open here l n =
         sym (ap found_of (past-short _ ∙ at_first Open (opens ch (marks_in s)) _ q first-opened here))
@@ -202,12 +202,12 @@ module _ {ch : Channel} {s s' : List ℕ} {p : ℕ} (short : ShortFound ch s p s
           → r ≡ head_or 0 (floating ch l (marks_in s))
       first-floats l n = (rw short.marks at floats) ch l refl (n ∙ sym (marks-length s)) (short.owned no_short)
 
-      pub finds-floating : (r ≡ 0 → ⊥) → Finds ch s (found.Fault (Floating r))
+      pub finds-floating : (r ≡ 0 → ⊥) → Finds ch s (Some (Floating r))
       unfolding found_of found_by
       finds-floating here l n =
           sym (ap found_of (past-both _ ∙ at_first Floating (floating ch l (marks_in s)) none r (first-floats l n) here))
 
-      pub finds-nothing : r ≡ 0 → Finds ch s found.Nothing
+      pub finds-nothing : r ≡ 0 → Finds ch s None
       unfolding found_of found_by
       finds-nothing no-floating l n =
           sym (ap found_of (past-both _ ∙ past-floating ch (marks_in s) l none (sym no-floating ∙ first-floats l n)))

@@ -1,4 +1,4 @@
--- 01, "Judge": the answer to rows and a board file, tangled channels included; "the judge skips 7".
+-- SCOPE, "Judge, blanks, programs": the answer to rows and a board file, tangled lists too; "the judge skips 7".
 use Rattle.std.specs.Prelude.{ℕ, List, [], ◌∷◌, not, eqb}
 use Rattle.std.proofs.Math.Option.{Option, none, some}
 use Rattle.refusal.specs.declared.Refusal.{Refusal}

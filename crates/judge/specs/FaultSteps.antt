@@ -8,8 +8,8 @@ use Rattle.grid.specs.Pieces.{Layout}
 use Rattle.channel.specs.Channel.{Channel, width, rows}
 use Rattle.channel.specs.Answers.{Escapes}
 use Rattle.judge.specs.declared.Fault.{Fault}
-use Rattle.judge.specs.declared.faults.Found.{Found}
-use Rattle.judge.specs.declared.faults.Found.TheVariants as found
+use Rattle.std.specs.declared.option.Option as found
+use Rattle.std.specs.Prelude.{Some, None}
 use Rattle.classes.specs.Halves.{half, low_half, high_half}
 use Rattle.judge.specs.Finding.{shorts, floating}
 use Rattle.judge.specs.SameFinding.{found_by}
@@ -56,11 +56,11 @@ FirstFloating ms base owners r =
     (ch : Channel) (l : Layout) → width ch + width ch ≡ base → base + length l.pieces ≡ length ms
     → Owned ch ms owners base → r ≡ head_or 0 (floating ch l ms)
 
-unfoldable pub found_of : Option Fault → Found
-found_of none = found.Nothing
-found_of (some f) = found.Fault f
+unfoldable pub found_of : Option Fault → found.Option Fault
+found_of none = None
+found_of (some f) = Some f
 
 -- what is found by these marks, whatever the layout that has so many pieces
-abbrev pub Finds : Channel → List ℕ → Found → Type 0
+abbrev pub Finds : Channel → List ℕ → found.Option Fault → Type 0
 Finds ch s r =
     (l : Layout) → width ch + width ch + length l.pieces ≡ length s → r ≡ found_of (found_by ch l (marks_in s))

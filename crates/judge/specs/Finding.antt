@@ -1,4 +1,4 @@
--- 01, refusals 11 to 13: what the judge finds in a layout, computed from the classes of its elements.
+-- SCOPE, refusals 11 to 13: what the judge finds in a layout, computed from the classes of its elements.
 use Rattle.std.specs.Prelude.{ℕ, ◌+◌, List, [], ◌∷◌, ◌&&◌, not, length, ltb, eqb}
 use Rattle.std.proofs.Math.Option.{Option, none, some}
 use Rattle.lists.specs.Lists.{keep, any_of, up_to, head_or, at}

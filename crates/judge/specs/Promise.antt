@@ -70,7 +70,7 @@ pub record Passable (ch : Channel) (board : List ℕ) (scratch : ℕ) : Type 0 w
   pub same_width : file_width board ≡ width ch
   pub good : Good ch (file_layout board)
 
--- 02, Req 10: "The judge is to work in 5,119, one for each possible piece and pin, and give the same finding for every
+-- Req 10: "The judge is to work in 5,119, one for each possible piece and pin, and give the same finding for every
 -- board. Refusal 1 for scratch follows." A board file counts at most 4,095 pieces; two rows have at most 1,024 pins
 pub record ScratchPromise : Type 0 where
   pub one_each : scratch_tray ≡ widest + widest + 4095

@@ -11,13 +11,6 @@ ghost use Rattle.judge.specs.FaultSteps.{Finds, marks_in, owners_in};
 
 use crate::Fault;
 
-// What is found.
-#[derive(Clone, Copy)]
-pub enum Found {
-    Nothing,
-    Fault(Fault),
-}
-
 // The net of a pin place, by its position from 0: TOP, then BOT.
 fn net_at(top: &[u32], bot: &[u32], i: usize) -> u32
     requires { i < length top.now + length bot.now }
@@ -78,13 +71,11 @@ fn first_short(top: &[u32], bot: &[u32], scratch: &mut [u32]) -> usize
     requires { FaultReady top.now bot.now scratch.old × ((m : ℕ) → get_or (owners_in scratch.old) m 0 ≡ 0) }
     ensures { ShortFound (rows top.now bot.now) scratch.old result scratch.new }
 {
-    let mut i: usize = 0;
-    while i < top.len() + top.len() {
+    for i in 0..top.len() + top.len() {
         let net = net_at(top, bot, i);
         if !claim_class(scratch, net != 0, i, net) {
             return i + 1;
         }
-        i += 1;
     }
     0
 }
@@ -95,13 +86,11 @@ fn first_open(top: &[u32], bot: &[u32], scratch: &[u32], firsts: &mut [u32]) -> 
     requires { FaultReady top.now bot.now scratch.now × Blank (widest + 1) firsts.old }
     ensures { result ≡ head_or 0 (opens (rows top.now bot.now) (marks_in scratch.now)) }
 {
-    let mut i: usize = 0;
-    while i < top.len() + top.len() {
+    for i in 0..top.len() + top.len() {
         let net = net_at(top, bot, i);
         if !claim(firsts, net != 0, net as usize, classes::low(scratch[i]) + 1) {
             return i + 1;
         }
-        i += 1;
     }
     0
 }
@@ -112,20 +101,23 @@ fn first_floating(scratch: &[u32], base: usize) -> usize
         × ((i : ℕ) → i < length scratch.now → get_or (marks_in scratch.now) i 0 ≤ length scratch.now) }
     ensures { FirstFloating (marks_in scratch.now) base (owners_in scratch.now) result }
 {
-    let mut i = base;
-    while i < scratch.len() {
+    for i in base..scratch.len() {
         let root = classes::low(scratch[i]) as usize;
         if classes::high(scratch[root]) == 0 {
             return i - base + 1;
         }
-        i += 1;
     }
     0
 }
 
 // The first fault, in rising number, of the pin places and the pieces whose classes stand in `scratch`. `firsts` is a
 // blank table by net.
-pub fn find_fault(top: &[u32], bot: &[u32], scratch: &mut [u32], firsts: &mut [u32]) -> Found
+pub fn find_fault(
+    top: &[u32],
+    bot: &[u32],
+    scratch: &mut [u32],
+    firsts: &mut [u32],
+) -> Option<Fault>
     requires { FaultReady top.now bot.now scratch.old
         × ((m : ℕ) → get_or (owners_in scratch.old) m 0 ≡ 0)
         × Blank (widest + 1) firsts.old }
@@ -133,15 +125,15 @@ pub fn find_fault(top: &[u32], bot: &[u32], scratch: &mut [u32], firsts: &mut [u
 {
     let short = first_short(top, bot, scratch);
     if short != 0 {
-        return Found::Fault(Fault::Short(short));
+        return Some(Fault::Short(short));
     }
     let open = first_open(top, bot, scratch, firsts);
     if open != 0 {
-        return Found::Fault(Fault::Open(open));
+        return Some(Fault::Open(open));
     }
     let floating = first_floating(scratch, top.len() + top.len());
     if floating != 0 {
-        return Found::Fault(Fault::Floating(floating));
+        return Some(Fault::Floating(floating));
     }
-    Found::Nothing
+    None
 }

@@ -5,7 +5,7 @@ ghost use Rattle.std.specs.Prelude.{◌≡◌};
 ghost use Rattle.boardfile.specs.Open.{file_layout};
 ghost use Rattle.judge.specs.Finding.{finding};
 ghost use Rattle.judge.specs.Answers.{judged, fault_number, fault_place};
-ghost use Rattle.judge.specs.Code.{Judged};
+ghost use Rattle.judge.specs.Code.{Judged, board_answer};
 ghost use Rattle.channel.specs.Channel.{rows};
 ghost use Rattle.judge.specs.ElementSteps.{ElementsReady, PiecesReady};
 
@@ -14,6 +14,7 @@ mod faults;
 mod lines;
 mod ranges;
 
+use boardfile::Board;
 use grid::COLUMN_SLOTS;
 use refusal::{Refusal, SCRATCH_TRAY};
 
@@ -37,7 +38,7 @@ pub enum JudgeAnswer {
     Refused(Refusal),
 }
 
-// The number of a fault in the table of 01.
+// The number of a fault in the table of the scope.
 pub fn fault_number(fault: Fault) -> u32
     ensures { result ≡ fault_number fault }
 {
@@ -75,23 +76,21 @@ fn judge_elements(
     let rows = tracks as usize + 2;
     let mut table = [0u32; COLUMN_SLOTS];
     classes::alone(scratch);
-    lines::join_on(
+    lines::join_on::<ranges::Columns>(
         top,
         bot,
         board,
         tracks,
-        false,
         width + 1,
         rows,
         &mut table,
         scratch,
     );
-    lines::join_on(
+    lines::join_on::<ranges::Tracks>(
         top,
         bot,
         board,
         tracks,
-        true,
         rows - 1,
         width + 1,
         &mut table,
@@ -99,8 +98,8 @@ fn judge_elements(
     );
     classes::flatten(scratch);
     match faults::find_fault(top, bot, scratch, &mut table) {
-        faults::Found::Nothing => JudgeAnswer::Good(tracks),
-        faults::Found::Fault(fault) => JudgeAnswer::Faulty(fault),
+        None => JudgeAnswer::Good(tracks),
+        Some(fault) => JudgeAnswer::Faulty(fault),
     }
 }
 
@@ -120,6 +119,18 @@ fn judge_pieces(
     judge_elements(top, bot, board, tracks, &mut scratch[..n])
 }
 
+// Opens a board file for rows of any lengths and numbers; or refusals 3 to 5 of the rows, 8 and 9 of the file, and 10.
+fn open_for(top: &[u32], bot: &[u32], board: &[u8]) -> Result<Board, Refusal>
+    ensures { result ≡ board_answer (rows top.now bot.now) board.now }
+{
+    channel::check(top, bot)?;
+    let opened = board_reader::open(board)?;
+    if opened.width as usize != top.len() {
+        return Err(Refusal::WrongBoard(opened.width as usize));
+    }
+    Ok(opened)
+}
+
 // Judges a board file of any bytes against rows of any lengths and numbers, tangled channels included. Scratch, of at
 // least 5,119 numbers, may hold anything afterwards, at its old length. The cost grows with the pieces and with the
 // points of the grid, and not with the pairs of pieces.
@@ -130,20 +141,17 @@ pub fn judge(top: &[u32], bot: &[u32], board: &[u8], scratch: &mut [u32]) -> Jud
     if scratch.len() < SCRATCH_TRAY {
         return JudgeAnswer::Refused(Refusal::ShortTray(SCRATCH_TRAY));
     }
-    match channel::check(top, bot) {
-        channel::RowsAnswer::Refused(refusal) => JudgeAnswer::Refused(refusal),
-        channel::RowsAnswer::Accepted => match board_reader::open(board) {
-            boardfile::OpenAnswer::Refused(refusal) => JudgeAnswer::Refused(refusal),
-            boardfile::OpenAnswer::Board {
-                width,
-                tracks,
-                count,
-            } => {
-                if width as usize != top.len() {
-                    return JudgeAnswer::Refused(Refusal::WrongBoard(width as usize));
-                }
-                judge_pieces(top, bot, board, tracks, count as usize, scratch)
-            }
-        },
+    match open_for(top, bot, board) {
+        Err(refusal) => JudgeAnswer::Refused(refusal),
+        Ok(opened) => {
+            judge_pieces(
+                top,
+                bot,
+                board,
+                opened.tracks,
+                opened.count as usize,
+                scratch,
+            )
+        }
     }
 }

@@ -1,5 +1,5 @@
 // Where an element, a pin place or a piece, lies on a line of the grid: on its column, or on its track.
-ghost use Rattle.std.specs.Prelude.{◌≡◌, ◌<◌};
+ghost use Rattle.std.specs.Prelude.{◌≡◌, ◌<◌, Bool, true, false};
 ghost use Rattle.channel.specs.Channel.{rows};
 ghost use Rattle.judge.specs.Ranges.{pin_range, cover_column, cover_track, element_at, in_column, on_track, range_on};
 ghost use Rattle.judge.specs.Ranges.{PlaceReady};
@@ -79,20 +79,36 @@ fn on_track(top: &[u32], bot: &[u32], board: &[u8], tracks: u32, i: usize) -> Ra
     cover_on_track(cover_of(boardfile::word_at(board, 4 + 4 * (i - pins))))
 }
 
-// The range of element i on its column, or across, on its track.
-pub fn range_on(
-    top: &[u32],
-    bot: &[u32],
-    board: &[u8],
-    tracks: u32,
-    across: bool,
-    i: usize,
-) -> Range
-    requires { PlaceReady top.now bot.now board.now tracks i }
-    ensures { result ≡ range_on across (rows top.now bot.now) tracks board.now i }
-{
-    if across {
-        return on_track(top, bot, board, tracks, i);
+// Lines of one kind: each element lies on one of them, on a range of its places.
+pub trait Lines {
+    ghost across: { Bool };
+
+    // The range of element i on its line.
+    fn range_of(top: &[u32], bot: &[u32], board: &[u8], tracks: u32, i: usize) -> Range
+        requires { PlaceReady top.now bot.now board.now tracks i }
+        ensures { result ≡ range_on across (rows top.now bot.now) tracks board.now i };
+}
+
+// The columns, whose places are rows.
+pub struct Columns;
+
+impl Lines for Columns {
+    ghost across = { false };
+
+    #[tactic(auto, unfolding(crate::specs::Ranges::range_on))]
+    fn range_of(top: &[u32], bot: &[u32], board: &[u8], tracks: u32, i: usize) -> Range {
+        in_column(top, bot, board, tracks, i)
     }
-    in_column(top, bot, board, tracks, i)
+}
+
+// The tracks, whose places are columns.
+pub struct Tracks;
+
+impl Lines for Tracks {
+    ghost across = { true };
+
+    #[tactic(auto, unfolding(crate::specs::Ranges::range_on))]
+    fn range_of(top: &[u32], bot: &[u32], board: &[u8], tracks: u32, i: usize) -> Range {
+        on_track(top, bot, board, tracks, i)
+    }
 }

@@ -1,4 +1,4 @@
--- Items in two halves, the second of which always fits after the first (02, Req 09: two lists on one panel). A scan
+-- Items in two halves, the second of which always fits after the first (SCOPE, Req 09: two lists on one panel). A scan
 -- does on the first half what it does there alone, and then on the second what it does there alone, since whatever was
 -- placed of the first half, the second fits after it. So each item gets the track that it gets alone, and the tracks
 -- are the larger of both.

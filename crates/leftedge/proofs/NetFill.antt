@@ -40,7 +40,7 @@ module _ (ch : Channel) (esc : Escapes ch) where
   unfolding fill
   nets-stuck left e = fill-stuck (net_items ch) (nets-orderly ch esc) left e
 
-  -- 02, Req 07: "For n nets with spans it is at most n times (n + 1), halved."
+  -- SCOPE, Req 07: "For n nets with spans it is at most n times (n + 1), halved."
   pub looks≤ceiling : looks ch ≤ ceiling (length (spanning ch))
   unfolding looks net_items
   looks≤ceiling =

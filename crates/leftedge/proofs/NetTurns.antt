@@ -4,18 +4,17 @@ use Rattle.std.specs.Prelude.{ℕ, ◌<◌, ◌≡◌, refl, ◌↔◌, length, 
 use native.Mathlib.Omega.{arith}
 use Rattle.std.proofs.Math.Path.{sym, ap}
 use Rattle.std.proofs.Common.{◌∙◌, subst, length-take}
-use mathlib.Core.List.{List, [], map, Memᴰ}
+use mathlib.Core.List.{List, [], Memᴰ}
 use Rattle.std.proofs.Math.ListN.{get_or, length-replicate}
 use Rattle.lists.specs.Lists.{any_of, overlay}
 use Rattle.lists.specs.Counts.{get_or-zeros}
 use Rattle.lists.specs.Arrays.{length-map-from, numbered-at, numbered}
-use Rattle.grid.specs.Pieces.{track}
 use Rattle.items.specs.Steps.{StepsLinked}
 use Rattle.items.specs.StepLaws.{waiting_none}
 use Rattle.channel.specs.Channel.{Channel, first_column, last_column}
 use Rattle.channel.specs.Answers.{Escapes}
 use Rattle.channel.specs.Parked.{NetsOnly}
-use Rattle.channel.specs.Spans.{SpansFound}
+use Rattle.channel.specs.Spans.{Spans, SpansFound}
 use Rattle.channel.proofs.SpanLaws.{spanning-small}
 use Rattle.channel.proofs.StepsLaws.{nets-stepped}
 use Rattle.leftedge.specs.declared.tracks.FillEnd.TheVariants as ends
@@ -99,17 +98,17 @@ end-stuck (stuck ls) n e = let same : n ≡ length ls = cc in (ls, same, refl)
 
 -- every net is placed
 pub placed-done : {ch : Channel} {q : ItemsFilled} {left tracks : List ℕ} {t : ℕ} {ring ring' : List ℕ} {r : Filled}
+    {s : Spans}
     → FillEnds (net_items ch) (fill ch) q left tracks → q.end ≡ ends.Placed t → length tracks ≡ 512 → ring' ≡ ring
-    → r.outcome ≡ Placed t → SpansFound ch r.spans → r.tracks ≡ map track tracks → r.looks ≡ q.looks
-    → FillDone ch ring r ring'
+    → r.outcome ≡ Placed t → SpansFound ch s → r.looks ≡ q.looks → FillDone ch ring r s tracks ring'
 unfolding outcome_of ring_held tracks_by looks
-placed-done {ch} {tracks = tracks} {t = t} e is long untouched outcome spans held seen =
+placed-done {ch} {tracks = tracks} {t = t} e is long untouched outcome spans seen =
     let f = end-placed (fill ch) t (sym is ∙ e.end) in
     let placed = numbered (track_of f.0) 512 tracks long (λ n k. e.placed t f.0 f.1 n (omega arith)) in
     record {
       outcome = rw f.1 outcome;
       spans = spans;
-      tracks = rw f.1 (held ∙ ap (map track) placed);
+      tracks = rw f.1 placed;
       looks = seen ∙ e.looks;
       held = rw f.1 untouched;
     }
@@ -136,15 +135,16 @@ module _ {ch : Channel} (only : NetsOnly ch) {q : ItemsFilled} {left tracks : Li
             (e.unplaced found.0 found.2 m (spanning→order ch only.escapes.even m k));
       }
 
-  pub stuck-done : {ring before after ring' : List ℕ} {r : Filled} {pairs : ℕ} → before ≡ ring
+  pub stuck-done : {ring before after ring' : List ℕ} {r : Filled} {s : Spans} {bare : List ℕ} {pairs : ℕ}
+      → before ≡ ring
       → RingShown ch (take n left) before pairs after → ring' ≡ after → r.outcome ≡ Stuck pairs
-      → SpansFound ch r.spans → r.tracks ≡ replicate 512 (track 0) → r.looks ≡ q.looks → FillDone ch ring r ring'
+      → SpansFound ch s → bare ≡ replicate 512 0 → r.looks ≡ q.looks → FillDone ch ring r s bare ring'
   unfolding outcome_of ring_held tracks_by looks
-  stuck-done untouched shown stays outcome spans bare seen =
+  stuck-done untouched shown stays outcome spans none seen =
       record {
         outcome = rw stuck_there (outcome ∙ ap Stuck shown.counted);
         spans = spans;
-        tracks = rw stuck_there bare;
+        tracks = rw stuck_there none;
         looks = seen ∙ e.looks;
         held = rw stuck_there (stays ∙ (shown.shown ∙ ap (overlay (ring_numbers (ring_of (net_items ch) (take n left))))
             untouched));

@@ -2,15 +2,13 @@
 use Prim.Native.Nat.{ℕ}
 use Rattle.std.proofs.Math.Path.{◌≡◌, refl, ap, ap₂, fun_ext}
 use Rattle.std.proofs.Common.{◌∙◌}
-use mathlib.Core.List.{List, map}
+use mathlib.Core.List.{List}
 use Rattle.std.specs.Prelude.{Bool, length}
 use Rattle.std.proofs.Math.Dec.{ltb}
 use Rattle.lists.specs.Lists.{each, up_to, overlay}
-use Rattle.grid.specs.Pieces.{column}
-use Rattle.channel.specs.declared.spans.Spans.{Spans}
 use Rattle.channel.specs.Channel.{Channel, width, without_parked, first_column, last_column}
 use Rattle.channel.specs.Constraints.{Drop, drops}
-use Rattle.channel.specs.Spans.{SpansFound, starting}
+use Rattle.channel.specs.Spans.{Spans, SpansFound, starting}
 use Rattle.channel.proofs.ShownLaws.{width-shown, first-shown, last-shown, firsts-shown, lasts-shown}
 use Rattle.channel.proofs.ShownLaws.{starting-shown, drops-shown}
 use Rattle.leftedge.specs.declared.Outcome.TheVariants.{Stuck}
@@ -62,8 +60,8 @@ module _ (ch : Channel) where
   spans-shown : {s : Spans} → SpansFound shown s → SpansFound ch s
   spans-shown h =
       record {
-        first = h.first ∙ ap (map column) (firsts-shown ch);
-        last = h.last ∙ ap (map column) (lasts-shown ch);
+        first = h.first ∙ firsts-shown ch;
+        last = h.last ∙ lasts-shown ch;
       }
 
   outcome-shown : (f : Filling) → outcome_of shown f ≡ outcome_of ch f
@@ -76,7 +74,8 @@ module _ (ch : Channel) where
   held-shown (filled t ps) ring = refl
   held-shown (stuck left) ring = ap (λ (it : Items). overlay (ring_numbers (ring_of it left)) ring) items_shown
 
-  pub filled-shown : {ring ring' : List ℕ} {r : Filled} → FillDone shown ring r ring' → FillDone ch ring r ring'
+  pub filled-shown : {ring ring' : List ℕ} {r : Filled} {s : Spans} {tracks : List ℕ}
+      → FillDone shown ring r s tracks ring' → FillDone ch ring r s tracks ring'
   filled-shown {ring} h =
       record {
         outcome = h.outcome ∙ (outcome-shown (fill shown) ∙ ap (outcome_of ch) fill-shown);

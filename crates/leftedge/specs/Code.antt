@@ -1,12 +1,10 @@
 -- What the code of the fill and of the walk answers and leaves, over the definitions.
 use Rattle.std.specs.Prelude.{ℕ, ◌≤◌, ◌≡◌, ◌↔◌, length, take, get_or, replicate}
-use mathlib.Core.List.{List, map, Memᴰ}
+use mathlib.Core.List.{List, Memᴰ}
 use Rattle.lists.specs.Lists.{overlay}
-use Rattle.grid.specs.declared.Track.{Track}
-use Rattle.grid.specs.Pieces.{track}
 use Rattle.channel.specs.Channel.{Channel, spanning}
 use Rattle.channel.specs.Parked.{NetsOnly}
-use Rattle.channel.specs.Spans.{each512, SpansFound}
+use Rattle.channel.specs.Spans.{each512, Spans, SpansFound}
 use Rattle.leftedge.specs.declared.Outcome.{Outcome}
 use Rattle.leftedge.specs.declared.Outcome.TheVariants.{Placed, Stuck}
 use Rattle.leftedge.specs.declared.Filled.{Filled}
@@ -28,22 +26,23 @@ ring_held ch (filled t ps) ring = ring
 ring_held ch (stuck left) ring = overlay (ring_numbers (ring_of (net_items ch) left)) ring
 
 -- the track of each net number, by its place, 0 where it has none; where the fill is stuck nobody has one
-unfoldable pub tracks_by : Filling → List Track
-tracks_by (filled t ps) = map track (each512 (track_of ps))
-tracks_by (stuck left) = replicate 512 (track 0)
+unfoldable pub tracks_by : Filling → List ℕ
+tracks_by (filled t ps) = each512 (track_of ps)
+tracks_by (stuck left) = replicate 512 0
 
--- What `fill_tracks` answers, and what the ring buffer then holds. Rules out: a fill that puts all nets on its first
+-- What `fill_tracks` answers, and what the tables and the ring buffer then hold. Rules out: a fill that puts all nets on its first
 -- track (tracks); first and last columns exchanged (spans); a ring begun at the highest unplaced net (held); the last
 -- scan not counted where it stays empty (looks).
-pub record FillDone (ch : Channel) (ring : List ℕ) (r : Filled) (ring' : List ℕ) : Type 0 where
+pub record FillDone (ch : Channel) (ring : List ℕ) (r : Filled) (s : Spans) (table ring' : List ℕ)
+    : Type 0 where
   pub outcome : r.outcome ≡ outcome_of ch (fill ch)
-  pub spans : SpansFound ch r.spans
-  pub tracks : r.tracks ≡ tracks_by (fill ch)
+  pub spans : SpansFound ch s
+  pub tracks : table ≡ tracks_by (fill ch)
   pub looks : r.looks ≡ looks ch
   pub held : ring' ≡ ring_held ch (fill ch) ring
 
 -- where the fill of a channel's nets begins: its own copy of the columns, which is shown equal to those due in the net
--- records (02, Req 06), and the nets in the order of the scan
+-- records (SCOPE, Req 06), and the nets in the order of the scan
 pub record NetsBegin (ch : Channel) (first last left : List ℕ) (count : ℕ) (tracks : List ℕ) : Type 0 where
   pub only : NetsOnly ch
   pub columns : ColumnsDue ch first last

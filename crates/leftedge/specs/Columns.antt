@@ -1,4 +1,4 @@
--- 02, Req 06: the columns from which the fill works, in its own copy of 16-bit numbers.
+-- SCOPE, Req 06: the columns from which the fill works, in its own copy of 16-bit numbers.
 use Rattle.std.specs.Prelude.{ℕ, ◌≡◌, get_or}
 use mathlib.Core.List.{List, Memᴰ}
 use Rattle.channel.specs.Channel.{Channel}

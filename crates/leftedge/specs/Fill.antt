@@ -1,4 +1,4 @@
--- 01, "Filling tracks": "For each track from 1 up, the list of unplaced nets is scanned once."
+-- SCOPE, "Filling tracks": "For each track from 1 up, the list of unplaced nets is scanned once."
 use Rattle.std.specs.Prelude.{ℕ, zero, suc, List, [], ◌∷◌, cond, ◌&&◌, length, eqb}
 use Rattle.std.proofs.Math.Option.{Option, none, some}
 use Rattle.leftedge.specs.Items.{Items, Place, fits, clear_below}

@@ -12,7 +12,7 @@ other-net end of start net apart =
     rw (ne_eqb of net apart) (
     ap (λ (b : Bool). ltb end start || b) (and-false (eqb end start)) ∙ or-false (ltb end start))
 
--- 02, Req 13: "within one net a piece's first column need only reach the last column of the piece placed before it"
+-- SCOPE, Req 13: "within one net a piece's first column need only reach the last column of the piece placed before it"
 pub one-net : (end of start net : ℕ) → of ≡ net → may_follow end of start net ≡ leb end start
 unfolding may_follow
 one-net end of start net same =

@@ -1,5 +1,5 @@
--- 01, "Filling tracks": what the fill is told of the items that it places, and what it says of them. Nets are one kind
--- of item (see Nets).
+-- SCOPE, "Filling tracks": what the fill is told of the items that it places, and what it says of them. Nets are one
+-- kind of item (see Nets).
 use Rattle.std.specs.Prelude.{ℕ, List, [], ◌∷◌, map, Bool, true, cond, eqb}
 use Rattle.std.proofs.Math.Option.{Option, none, some}
 use Rattle.lists.specs.Lists.{any_of, all_of}

@@ -1,4 +1,4 @@
--- 02, Req 07: "The fill counts each unplaced net it examines, once per track scan, the last empty scan included".
+-- SCOPE, Req 07: "The fill counts each unplaced net it examines, once per track scan, the last empty scan included".
 use Rattle.std.specs.Prelude.{ℕ, zero, suc, ◌+◌, ◌*◌, ◌/◌, List, [], cond, length, eqb}
 use Rattle.std.proofs.Math.Option.{none}
 use Rattle.leftedge.specs.Items.{Items, Place}

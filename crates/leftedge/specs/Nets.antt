@@ -1,5 +1,5 @@
--- 01, "Filling tracks" and "Spans and constraints": the nets of a channel as the items of the fill, and the table of
--- net records.
+-- SCOPE, "Filling tracks" and "Spans and constraints": the nets of a channel as the items of the fill, and the table
+-- of net records.
 use Rattle.std.specs.Prelude.{ℕ, List, map, ltb}
 use Rattle.lists.specs.Lists.{each, up_to}
 use Rattle.grid.specs.Pieces.{column, track, net}
@@ -22,7 +22,7 @@ net_items ch =
 unfoldable pub fill : Channel → Filling
 fill ch = fill_items (net_items ch)
 
--- 02, Req 07: how many unplaced nets the fill examines, once per track scan
+-- SCOPE, Req 07: how many unplaced nets the fill examines, once per track scan
 unfoldable pub looks : Channel → ℕ
 looks ch = item_looks (net_items ch)
 

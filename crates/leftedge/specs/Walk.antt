@@ -1,4 +1,4 @@
--- 01, "Filling tracks": the ring shown where the fill is stuck.
+-- SCOPE, "Filling tracks": the ring shown where the fill is stuck.
 use Rattle.std.specs.Prelude.{ℕ, zero, suc, List, [], ◌∷◌, ◌++◌, cond, length, eqb}
 use Rattle.lists.specs.Lists.{keep, each, is_in, head_or, least}
 use Rattle.channel.specs.Constraints.{Drop, Step, nets_of}

@@ -1,27 +1,28 @@
-// The fill's own copy of first and last columns, in 16-bit numbers (02, Req 06).
+// The fill's own copy of first and last columns, in 16-bit numbers (SCOPE, Req 06).
 ghost use Rattle.std.specs.Prelude.{◌≡◌, ◌≤◌, get_or, set, replicate};
+ghost use Rattle.grid.specs.Numbers.{column_numbers};
 ghost use Rattle.channel.specs.Channel.{highest_net, widest, rows};
 ghost use Rattle.channel.specs.Parked.{NetsOnly};
 ghost use Rattle.channel.specs.Spans.{firsts, lasts};
 ghost use Rattle.leftedge.specs.Columns.{ColumnsDue};
 
-use grid::{NET_SLOTS, Net};
+use grid::{Column, NET_SLOTS, Net};
 
 // Copies the columns of net n, of which none passes 512.
 fn copy_net(
-    first: &[u32; NET_SLOTS],
-    last: &[u32; NET_SLOTS],
+    first: &[Column; NET_SLOTS],
+    last: &[Column; NET_SLOTS],
     begins: &mut [u16; NET_SLOTS],
     ends: &mut [u16; NET_SLOTS],
     n: Net,
 )
-    requires { (n.0 ≤ highest_net) × (get_or first.now n.0 0 ≤ widest) × (get_or last.now n.0 0 ≤ widest) }
-    ensures { (begins.new ≡ set begins.old n.0 (get_or first.now n.0 0))
-        × (ends.new ≡ set ends.old n.0 (get_or last.now n.0 0)) }
+    requires { (n.0 ≤ highest_net) × (get_or (column_numbers first.now) n.0 0 ≤ widest) × (get_or (column_numbers last.now) n.0 0 ≤ widest) }
+    ensures { (begins.new ≡ set begins.old n.0 (get_or (column_numbers first.now) n.0 0))
+        × (ends.new ≡ set ends.old n.0 (get_or (column_numbers last.now) n.0 0)) }
 {
     let i = n.0 as usize;
-    begins[i] = first[i] as u16;
-    ends[i] = last[i] as u16;
+    begins[i] = first[i].0 as u16;
+    ends[i] = last[i].0 as u16;
 }
 
 // Copies the columns of every net of a channel whose rows show nets only, by its number, into tables that hold 0
@@ -30,20 +31,18 @@ fn copy_net(
 pub fn copy_columns(
     top: &[u32],
     bot: &[u32],
-    first: &[u32; NET_SLOTS],
-    last: &[u32; NET_SLOTS],
+    first: &[Column; NET_SLOTS],
+    last: &[Column; NET_SLOTS],
     begins: &mut [u16; NET_SLOTS],
     ends: &mut [u16; NET_SLOTS],
 )
-    requires { NetsOnly (rows top.now bot.now) × (first.now ≡ firsts (rows top.now bot.now))
-        × (last.now ≡ lasts (rows top.now bot.now)) × (begins.old ≡ replicate 512 0)
+    requires { NetsOnly (rows top.now bot.now) × (column_numbers first.now ≡ firsts (rows top.now bot.now))
+        × (column_numbers last.now ≡ lasts (rows top.now bot.now)) × (begins.old ≡ replicate 512 0)
         × (ends.old ≡ replicate 512 0) }
     ensures { ColumnsDue (rows top.now bot.now) begins.new ends.new }
 {
-    let mut i: usize = 0;
-    while i < top.len() {
+    for i in 0..top.len() {
         copy_net(first, last, begins, ends, Net(top[i]));
         copy_net(first, last, begins, ends, Net(bot[i]));
-        i += 1;
     }
 }

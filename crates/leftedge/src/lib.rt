@@ -6,8 +6,7 @@ mod nets;
 mod ring;
 mod tracks;
 
-use channel::Spans;
-use grid::{Column, NET_SLOTS, Net, Track};
+use grid::{Column, Net, Track};
 pub use nets::{count_looks, fill_tracks};
 pub use ring::store_pairs;
 
@@ -29,12 +28,9 @@ pub enum Outcome {
     Stuck(u32),
 }
 
-// A fill: how it ends, the columns of each net, the track of each net by its number, 0 where it has none, and how many
-// unplaced nets it looked at, once per track scan.
+// A fill: how it ends, and how many unplaced nets it looked at, once per track scan.
 #[derive(Clone, Copy)]
 pub struct Filled {
     pub outcome: Outcome,
-    pub spans: Spans,
-    pub tracks: [Track; NET_SLOTS],
     pub looks: usize,
 }

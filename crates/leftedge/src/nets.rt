@@ -1,11 +1,12 @@
 // The fill of a channel: its nets with spans as items.
-ghost use Rattle.std.specs.Prelude.{◌≡◌, ◌≤◌, map, length, replicate};
+ghost use Rattle.std.specs.Prelude.{◌≡◌, ◌≤◌, length, replicate};
 ghost use Rattle.lists.specs.Lists.{overlay};
 ghost use Rattle.refusal.specs.Trays.{ring_tray};
-ghost use Rattle.grid.specs.Pieces.{track};
+ghost use Rattle.grid.specs.Pieces.{column};
+ghost use Rattle.grid.specs.Numbers.{column_numbers, track_numbers};
 ghost use Rattle.channel.specs.Channel.{rows};
 ghost use Rattle.channel.specs.Parked.{NetsOnly};
-ghost use Rattle.channel.specs.Spans.{firsts, lasts};
+ghost use Rattle.channel.specs.Spans.{firsts, lasts, spans};
 ghost use Rattle.leftedge.specs.Nets.{fill_order, net_items, fill, looks};
 ghost use Rattle.leftedge.specs.Tables.{FillEnds};
 ghost use Rattle.leftedge.specs.Code.{FillDone, NetsBegin};
@@ -15,32 +16,19 @@ use crate::ring::show_ring;
 use crate::tracks::{FillEnd, ItemsFilled, fill_items};
 use crate::{Filled, Outcome};
 use channel::list_spanning;
-use grid::{COLUMN_SLOTS, NET_SLOTS, Track};
-
-// Numbers as tracks.
-fn typed_tracks(plain: [u32; NET_SLOTS]) -> [Track; NET_SLOTS]
-    ensures { result ≡ map track plain }
-{
-    let mut tracks = [Track(0); NET_SLOTS];
-    let mut i: usize = 0;
-    while i < NET_SLOTS {
-        tracks[i] = Track(plain[i]);
-        i += 1;
-    }
-    tracks
-}
+use grid::{COLUMN_SLOTS, Column, NET_SLOTS, Track};
 
 // The nets with spans at the front of `order`, in the order of the scan; answers how many there are.
 fn net_order(
     top: &[u32],
     bot: &[u32],
-    first: &[u32; NET_SLOTS],
-    last: &[u32; NET_SLOTS],
+    first: &[Column; NET_SLOTS],
+    last: &[Column; NET_SLOTS],
     next: &mut [u16],
     order: &mut [u32],
 ) -> usize
-    requires { NetsOnly (rows top.now bot.now) × (first.now ≡ firsts (rows top.now bot.now))
-        × (last.now ≡ lasts (rows top.now bot.now)) × (length next.old ≡ 513) × (length order.old ≡ 512) }
+    requires { NetsOnly (rows top.now bot.now) × (column_numbers first.now ≡ firsts (rows top.now bot.now))
+        × (column_numbers last.now ≡ lasts (rows top.now bot.now)) × (length next.old ≡ 513) × (length order.old ≡ 512) }
     ensures { (result ≡ length (fill_order (rows top.now bot.now)))
         × (order.new
         ≡ overlay (fill_order (rows top.now bot.now)) order.old) }
@@ -61,12 +49,12 @@ fn fill_nets(
     next: &mut [u16],
     left: &mut [u32],
     count: usize,
-    tracks: &mut [u32],
+    tracks: &mut [Track],
 ) -> ItemsFilled
-    requires { NetsBegin (rows top.now bot.now) first.now last.now left.old count tracks.old
+    requires { NetsBegin (rows top.now bot.now) first.now last.now left.old count (track_numbers tracks.old)
         × (length next.old ≡ 513) }
     ensures { FillEnds (net_items (rows top.now bot.now))
-        (fill (rows top.now bot.now)) result left.new tracks.new }
+        (fill (rows top.now bot.now)) result left.new (track_numbers tracks.new) }
 {
     let mut head = [0u16; NET_SLOTS];
     let mut under = [0u16; NET_SLOTS];
@@ -83,16 +71,16 @@ fn fill_nets(
 fn fill_found(
     top: &[u32],
     bot: &[u32],
-    first: &[u32; NET_SLOTS],
-    last: &[u32; NET_SLOTS],
+    first: &[Column; NET_SLOTS],
+    last: &[Column; NET_SLOTS],
     left: &mut [u32],
-    tracks: &mut [u32],
+    tracks: &mut [Track],
 ) -> ItemsFilled
-    requires { NetsOnly (rows top.now bot.now) × (first.now ≡ firsts (rows top.now bot.now))
-        × (last.now ≡ lasts (rows top.now bot.now)) × (length left.old ≡ 512)
-        × (tracks.old ≡ replicate 512 0) }
+    requires { NetsOnly (rows top.now bot.now) × (column_numbers first.now ≡ firsts (rows top.now bot.now))
+        × (column_numbers last.now ≡ lasts (rows top.now bot.now)) × (length left.old ≡ 512)
+        × (track_numbers tracks.old ≡ replicate 512 0) }
     ensures { FillEnds (net_items (rows top.now bot.now))
-        (fill (rows top.now bot.now)) result left.new tracks.new }
+        (fill (rows top.now bot.now)) result left.new (track_numbers tracks.new) }
 {
     // links of the nets by first column, then of the steps by lower net
     let mut next = [0u16; COLUMN_SLOTS];
@@ -103,35 +91,57 @@ fn fill_found(
     fill_nets(top, bot, &begins, &ends, &mut next, left, count, tracks)
 }
 
-// Fills the tracks of a channel whose rows show nets only. Where the fill is stuck, the ring's pairs fill the front of
-// `ring`, and no net has a track.
-pub fn fill_tracks(top: &[u32], bot: &[u32], ring: &mut [u32]) -> Filled
-    requires { NetsOnly (rows top.now bot.now) × (ring_tray ≤ length ring.old) }
-    ensures { FillDone (rows top.now bot.now) ring.old result ring.new }
+// `fill_tracks` in tables that hold 0 everywhere.
+#[inline(never)]
+fn fill_cleared(
+    top: &[u32],
+    bot: &[u32],
+    first: &mut [Column; NET_SLOTS],
+    last: &mut [Column; NET_SLOTS],
+    tracks: &mut [Track; NET_SLOTS],
+    ring: &mut [u32],
+) -> Filled
+    requires { NetsOnly (rows top.now bot.now) × (first.old ≡ replicate 512 (column 0)) × (last.old ≡ replicate 512 (column 0))
+        × (track_numbers tracks.old ≡ replicate 512 0) × (ring_tray ≤ length ring.old) }
+    ensures { FillDone (rows top.now bot.now) ring.old result (spans (column_numbers first.new) (column_numbers last.new))
+        (track_numbers tracks.new) ring.new }
 {
-    let mut first = [0u32; NET_SLOTS];
-    let mut last = [0u32; NET_SLOTS];
-    channel::find_columns(top, bot, &mut first, &mut last);
-    let spans = channel::typed_spans(first, last);
+    channel::find_columns(top, bot, first, last);
     let mut left = [0u32; NET_SLOTS];
-    let mut tracks = [0u32; NET_SLOTS];
-    let filled = fill_found(top, bot, &first, &last, &mut left, &mut tracks);
-    let looks = filled.looks;
-    let end = filled.end;
-    let outcome = match end {
+    let filled = fill_found(top, bot, first, last, &mut left, tracks);
+    let outcome = match filled.end {
         FillEnd::Placed(t) => Outcome::Placed(t),
         FillEnd::Stuck(n) => {
-            let pairs = show_ring(top, bot, &tracks, &left, n, ring);
-            tracks = [0u32; NET_SLOTS];
+            let pairs = show_ring(top, bot, tracks, &left, n, ring);
+            *tracks = [Track(0); NET_SLOTS];
             Outcome::Stuck(pairs)
         }
     };
     Filled {
         outcome,
-        spans,
-        tracks: typed_tracks(tracks),
-        looks,
+        looks: filled.looks,
     }
+}
+
+// Fills the tracks of a channel whose rows show nets only: stores the columns and the track of each net by its number,
+// 0 everywhere else. Where the fill is stuck, the ring's pairs fill the front of `ring`, and no net has a track. Short, so
+// that it is inlined where the tables are made, which are then cleared once.
+pub fn fill_tracks(
+    top: &[u32],
+    bot: &[u32],
+    first: &mut [Column; NET_SLOTS],
+    last: &mut [Column; NET_SLOTS],
+    tracks: &mut [Track; NET_SLOTS],
+    ring: &mut [u32],
+) -> Filled
+    requires { NetsOnly (rows top.now bot.now) × (ring_tray ≤ length ring.old) }
+    ensures { FillDone (rows top.now bot.now) ring.old result (spans (column_numbers first.new) (column_numbers last.new))
+        (track_numbers tracks.new) ring.new }
+{
+    *first = [Column(0); NET_SLOTS];
+    *last = [Column(0); NET_SLOTS];
+    *tracks = [Track(0); NET_SLOTS];
+    fill_cleared(top, bot, first, last, tracks, ring)
 }
 
 // How many looks the fill of a channel takes whose rows show nets only, filled or stuck.
@@ -139,11 +149,11 @@ pub fn count_looks(top: &[u32], bot: &[u32]) -> usize
     requires { NetsOnly (rows top.now bot.now) }
     ensures { result ≡ looks (rows top.now bot.now) }
 {
-    let mut first = [0u32; NET_SLOTS];
-    let mut last = [0u32; NET_SLOTS];
+    let mut first = [Column(0); NET_SLOTS];
+    let mut last = [Column(0); NET_SLOTS];
     channel::find_columns(top, bot, &mut first, &mut last);
     let mut left = [0u32; NET_SLOTS];
-    let mut tracks = [0u32; NET_SLOTS];
+    let mut tracks = [Track(0); NET_SLOTS];
     let filled = fill_found(top, bot, &first, &last, &mut left, &mut tracks);
     filled.looks
 }

@@ -2,6 +2,7 @@
 ghost use Rattle.std.specs.Prelude.{◌≡◌, ◌*◌, ◌≤◌, ◌<◌, length, take};
 ghost use Rattle.lists.specs.Lists.{least, overlay};
 ghost use Rattle.refusal.specs.Trays.{ring_tray};
+ghost use Rattle.grid.specs.Numbers.{track_numbers};
 ghost use Rattle.channel.specs.Channel.{rows};
 ghost use Rattle.channel.specs.Parked.{NetsOnly};
 ghost use Rattle.channel.specs.Spans.{each512};
@@ -9,20 +10,18 @@ ghost use Rattle.leftedge.specs.Walk.{ring_numbers};
 ghost use Rattle.leftedge.specs.Ring.{lowest_drop, net_below, met, steps_by, Confined, Closes};
 ghost use Rattle.leftedge.specs.Code.{RingShown, WalkFrom};
 
-use grid::{NET_SLOTS, Net};
+use grid::{NET_SLOTS, Net, Track};
 
 // For each net number its lowest column that has a net without a track below it, 0 if there is none.
-fn lowest_drops(top: &[u32], bot: &[u32], tracks: &[u32; NET_SLOTS]) -> [u32; NET_SLOTS]
+fn lowest_drops(top: &[u32], bot: &[u32], tracks: &[Track; NET_SLOTS]) -> [u32; NET_SLOTS]
     requires { NetsOnly (rows top.now bot.now) }
-    ensures { result ≡ each512 (lowest_drop (rows top.now bot.now) tracks.now) }
+    ensures { result ≡ each512 (lowest_drop (rows top.now bot.now) (track_numbers tracks.now)) }
 {
     let mut columns = [0u32; NET_SLOTS];
-    let mut i = top.len();
-    while 0 < i {
-        i -= 1;
+    for i in (0..top.len()).rev() {
         let a = top[i];
         let b = bot[i];
-        if (a != 0) & (b != 0) & (a != b) & (tracks[b as usize] == 0) {
+        if (a != 0) & (b != 0) & (a != b) & (tracks[b as usize].0 == 0) {
             columns[a as usize] = i as u32 + 1;
         }
     }
@@ -35,13 +34,8 @@ fn lowest_net(left: &[u32; NET_SLOTS], count: usize) -> Net
     ensures { result.0 ≡ least (take count left.now) }
 {
     let mut least = left[0];
-    let mut i: usize = 1;
-    while i < count {
-        let n = left[i];
-        i += 1;
-        if n < least {
-            least = n;
-        }
+    for i in 1..count {
+        least = least.min(left[i]);
     }
     Net(least)
 }
@@ -88,14 +82,12 @@ pub fn store_pairs(
         (met (net_below bot.now columns.now) again.0 count))) ring.old }
 {
     let mut n = again.0;
-    let mut i: u32 = 0;
-    while i < count {
+    for i in 0..count {
         let at = 2 * i as usize;
         let c = columns[n as usize];
         ring[at] = n;
         ring[at + 1] = c;
         n = bot[c as usize - 1];
-        i += 1;
     }
 }
 
@@ -103,12 +95,12 @@ pub fn store_pairs(
 pub fn show_ring(
     top: &[u32],
     bot: &[u32],
-    tracks: &[u32; NET_SLOTS],
+    tracks: &[Track; NET_SLOTS],
     left: &[u32; NET_SLOTS],
     count: usize,
     ring: &mut [u32],
 ) -> u32
-    requires { WalkFrom (rows top.now bot.now) tracks.now left.now count × (ring_tray ≤ length ring.old) }
+    requires { WalkFrom (rows top.now bot.now) (track_numbers tracks.now) left.now count × (ring_tray ≤ length ring.old) }
     ensures { RingShown (rows top.now bot.now) (take count left.now) ring.old result
         ring.new }
 {

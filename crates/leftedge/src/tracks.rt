@@ -4,6 +4,7 @@
 // item is counted.
 ghost use Rattle.std.specs.Prelude.{◌≡◌, ◌<◌, List, length, take, get_or};
 ghost use Rattle.std.proofs.Math.Option.{none};
+ghost use Rattle.grid.specs.Numbers.{track_numbers};
 ghost use Rattle.leftedge.specs.Items.{Items, Place};
 ghost use Rattle.leftedge.specs.Fill.{scan, fill_items};
 ghost use Rattle.leftedge.specs.Tables.{net_at, may_follow};
@@ -68,17 +69,17 @@ fn scan_track(
     under: &mut [u16],
     left: &mut [u32],
     count: usize,
-    tracks: &mut [u32],
+    tracks: &mut [Track],
     k: Track,
 ) -> Scanned
     requires { ScanFrom first.now last.now nets.now upper.now head.now next.now under.old left.old
-        count tracks.old }
+        count (track_numbers tracks.old) }
     ensures { (it : Items) (ps : List Place)
         → ScanBegins it ps first.now last.now nets.now upper.now
-        head.now next.now under.old left.old count tracks.old
+        head.now next.now under.old left.old count (track_numbers tracks.old)
         → ScanDone it (take count left.old)
         (scan it k.0 none ps (take count left.old)) result under.new
-        left.new tracks.new }
+        left.new (track_numbers tracks.new) }
 {
     // the last column and the net of the item placed before on this track, 0 if there is none
     let mut end: u16 = 0;
@@ -91,7 +92,7 @@ fn scan_track(
         let n = item as usize;
         i += 1;
         if under[n] == 0 && may_follow(first, nets, item, end, net) {
-            tracks[n] = k.0;
+            tracks[n] = k;
             end = last[n];
             net = net_of(nets, item);
             items::lower_above(upper, next, head[n], under);
@@ -116,14 +117,14 @@ pub fn fill_items(
     under: &mut [u16],
     left: &mut [u32],
     count: usize,
-    tracks: &mut [u32],
+    tracks: &mut [Track],
 ) -> ItemsFilled
     requires { FillFrom first.now last.now nets.now upper.now head.now next.now under.old left.old
-        count tracks.old }
+        count (track_numbers tracks.old) }
     ensures { (it : Items)
         → FillBegins it first.now last.now nets.now upper.now
-        head.now next.now under.old left.old count tracks.old
-        → FillEnds it (fill_items it) result left.new tracks.new }
+        head.now next.now under.old left.old count (track_numbers tracks.old)
+        → FillEnds it (fill_items it) result left.new (track_numbers tracks.new) }
 {
     let mut rest = count;
     let mut looks: usize = 0;

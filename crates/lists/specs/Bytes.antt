@@ -17,6 +17,6 @@ digits_of (suc fuel) n =
     let more = front ++ ((48 + n % 10) ∷ []) in
     cond (ltb n 10) ((48 + n) ∷ []) more
 
--- 01, "Pin list": a number is 0 or has no leading zero. No number has more digits than its value plus one
+-- SCOPE, "Pin list": a number is 0 or has no leading zero. No number has more digits than its value plus one
 abbrev pub decimal : ℕ → List ℕ
 decimal n = digits_of (suc n) n

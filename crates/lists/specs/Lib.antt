@@ -13,6 +13,7 @@ pub mod Climbs
 pub mod Places
 pub mod Eaches
 pub mod Tallies
+pub mod Finds
 pub mod Counts
 pub mod Unique
 pub mod Arrays
@@ -25,3 +26,4 @@ pub mod Maps
 pub mod Tables
 pub mod Fronts
 pub mod Parts
+pub mod Copies

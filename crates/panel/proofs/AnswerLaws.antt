@@ -1,5 +1,5 @@
 -- What joining two lists answers, and what the lent rows then hold, in each of its cases.
-use Rattle.std.specs.Prelude.{ℕ, suc, ◌+◌, ◌-◌, ◌≤◌, ◌<◌, ◌↔◌, ◌⊎◌, T, ltb}
+use Rattle.std.specs.Prelude.{ℕ, suc, ◌+◌, ◌-◌, ◌≤◌, ◌<◌, ◌↔◌, ◌⊎◌, T, ltb, Result, Ok, Err}
 use native.Mathlib.Omega.{arith}
 use Rattle.std.proofs.Math.Decide.{dec_le}
 use Rattle.std.proofs.Math.Path.{◌≡◌, refl, ap, subst}
@@ -14,18 +14,14 @@ use Rattle.lists.specs.Orders.{least-among, least-lower}
 use Rattle.lists.specs.Overlays.{front_of}
 use Rattle.refusal.specs.declared.Refusal.{Refusal}
 use Rattle.refusal.specs.declared.Refusal.TheVariants.{ShortTray, TooWide, PanelFull}
-use Rattle.refusal.specs.Refusals.{told_by, refuse_at_first, ◌or_else◌, answered, filled_unless}
+use Rattle.refusal.specs.Refusals.{told_by, refuse_at_first, ◌or_else◌, answered, ok_unless, filled_unless}
 use Rattle.refusal.specs.ChainLaws.{or_else_none, none-or-else, none-or-else-later, some-or-else, refuse-if-none}
-use Rattle.refusal.specs.ChainLaws.{none-refuse-if, refuse-if-some, some-refuse-if, answered-none, answered-some}
-use Rattle.refusal.specs.ToldLaws.{answered-told}
+use Rattle.refusal.specs.ChainLaws.{none-refuse-if, refuse-if-some, some-refuse-if, answered-none, answered-some, ok→none, err→some}
+use Rattle.refusal.specs.ToldLaws.{told-ok_unless}
 use Rattle.refusal.specs.Trays.{Tray, row_tray, short_tray}
-use Rattle.channel.specs.declared.RowsAnswer.TheVariants as checking
 use Rattle.channel.specs.Channel.{Channel, rows, width, highest_net, widest}
 use Rattle.channel.specs.Answers.{Escapes, rows_refusal, rows_answer}
 use Rattle.channel.proofs.EscapeLaws.{accepted-exactly}
-use Rattle.channel.proofs.BoundLaws.{accepted→none, refused→some}
-use Rattle.panel.specs.declared.JoinAnswer.{JoinAnswer}
-use Rattle.panel.specs.declared.JoinAnswer.TheVariants.{Width, Refused}
 use Rattle.panel.specs.Joined.{highest, raised, joined, Fits}
 use Rattle.panel.specs.Answers.{lists_refusal, panel_wide, high_numbers, panel_full, panel_refusal, join_refusal}
 use Rattle.panel.specs.Answers.{lists_answer, join_answer, top_after, bot_after, join_told}
@@ -53,17 +49,6 @@ rows_short a b h = go (dec_le row_tray a)
         rw (le-ltb a row_tray l, lt-ltb b row_tray k)
     go (no l) = let k : a < row_tray = omega arith in rw (lt-ltb a row_tray k)
 
--- an answer is a width exactly where nothing is refused
-pub width-none : (o : Option Refusal) (v w : ℕ) → answered Refused o (Width v) ≡ Width w → (o ≡ none) × (v ≡ w)
-unfolding answered
-width-none none v w e = (refl, cc)
-width-none (some r) v w e = absurd (let z : ◌≡◌ {A = ℕ} 0 1 = cc in omega arith)
-
-pub refused-some : (o : Option Refusal) (v : ℕ) (r : Refusal) → answered Refused o (Width v) ≡ Refused r → o ≡ some r
-unfolding answered
-refused-some none v r e = absurd (let z : ◌≡◌ {A = ℕ} 0 1 = cc in omega arith)
-refused-some (some q) v r e = cc
-
 module _ (ch dh : Channel) where
   -- both lists pass alone
   pub lists-none : (lists_refusal ch dh ≡ none) ↔ (Escapes ch × Escapes dh)
@@ -74,9 +59,9 @@ module _ (ch dh : Channel) where
     λ p. none-or-else (rows_refusal ch) (rows_refusal dh) ((accepted-exactly ch).1 p.0) ((accepted-exactly dh).1 p.1),
   )
 
-  pub lists-pass : lists_answer ch dh ≡ checking.Accepted → Escapes ch × Escapes dh
+  pub lists-pass : Ok tt ≡ lists_answer ch dh → Escapes ch × Escapes dh
   unfolding lists_answer
-  lists-pass e = lists-none.0 (accepted→none (lists_refusal ch dh) e)
+  lists-pass e = lists-none.0 (ok→none tt (lists_refusal ch dh) (sym e)).0
 
   narrow-none : width ch + width dh ≤ widest → panel_wide ch dh ≡ none
   unfolding panel_wide
@@ -155,12 +140,12 @@ module _ (ch dh : Channel) where
 
     -- what the code of two lists that pass alone answers
     checked_refused : (top bot : List ℕ) {r : Refusal} → panel_refusal ch dh ≡ some r
-        → CheckedJoined ch dh top bot (Refused r) top bot
+        → CheckedJoined ch dh top bot (Err r) top bot
     unfolding answered filled_unless
     checked_refused top bot e = record { answer = rw e; top_held = rw e; bot_held = rw e }
 
     pub checked-wide : (top bot : List ℕ) → widest < width ch + width dh
-        → CheckedJoined ch dh top bot (Refused (TooWide (suc widest))) top bot
+        → CheckedJoined ch dh top bot (Err (TooWide (suc widest))) top bot
     unfolding panel_refusal panel_wide
     checked-wide top bot h =
         checked_refused top bot (some-or-else (panel_wide ch dh) (panel_full ch dh) _
@@ -173,7 +158,7 @@ module _ (ch dh : Channel) where
 
       -- by the highest number h of the first list, and the lowest l of the second that is too high
       pub checked-full : (top bot : List ℕ) {h l : ℕ} → h ≡ highest ch → l ≡ lowest_of (highest_net - h) dh
-          → l ≤ highest_net → CheckedJoined ch dh top bot (Refused (PanelFull (h + l))) top bot
+          → l ≤ highest_net → CheckedJoined ch dh top bot (Err (PanelFull (h + l))) top bot
       checked-full top bot {h} {l} e f small =
           let found : l ≡ found_over ch dh = f ∙ ap (λ (k : ℕ). lowest_of (highest_net - k) dh) e in
           let r = found-place ch dh low₁ low₂ (omega arith) in
@@ -186,7 +171,7 @@ module _ (ch dh : Channel) where
       pub checked-stored : {top bot top' bot' : List ℕ} {h l : ℕ} → h ≡ highest ch → l ≡ lowest_of (highest_net - h) dh
           → highest_net < l → top' ≡ overlay (ch.top ++ map (raised h) dh.top) top
           → bot' ≡ overlay (ch.bot ++ map (raised h) dh.bot) bot
-          → CheckedJoined ch dh top bot (Width (width ch + width dh)) top' bot'
+          → CheckedJoined ch dh top bot (Ok (width ch + width dh)) top' bot'
       unfolding answered filled_unless joined
       checked-stored {top} {bot} {h = h} e f large p q =
           let found = f ∙ ap (λ (k : ℕ). lowest_of (highest_net - k) dh) e in
@@ -236,7 +221,7 @@ module _ (ch dh : Channel) (top bot : List ℕ) where
       back (h, fit) = passed-refusal h fit.first fit.second ∙ fits-silent ch dh fit
 
   -- the three equations give the whole contract
-  pub join-done : {r : JoinAnswer} {top' bot' : List ℕ} → r ≡ join_answer (length top) (length bot) ch dh
+  pub join-done : {r : Result ℕ Refusal} {top' bot' : List ℕ} → r ≡ join_answer (length top) (length bot) ch dh
       → top' ≡ top_after ch dh top bot → bot' ≡ bot_after ch dh top bot → JoinDone ch dh top bot r top' bot'
   unfolding join_answer top_after bot_after
   join-done {r} {top'} {bot'} e t b =
@@ -249,22 +234,22 @@ module _ (ch dh : Channel) (top bot : List ℕ) where
         promise = promise;
       }
     where
-      accepted : (w : ℕ) → r ≡ Width w → (refusal ≡ none) × (width ch + width dh ≡ w)
-      accepted w q = width-none refusal (width ch + width dh) w (sym e ∙ q)
+      accepted : (w : ℕ) → r ≡ Ok w → (refusal ≡ none) × (width ch + width dh ≡ w)
+      accepted w q = ok→none (width ch + width dh) refusal (sym e ∙ q)
 
-      given : LongRows top bot × Fits ch dh → r ≡ Width (width ch + width dh)
-      given p = e ∙ answered-none Refused refusal (Width (width ch + width dh)) (join-accepted.1 p)
+      given : LongRows top bot × Fits ch dh → r ≡ Ok (width ch + width dh)
+      given p = e ∙ answered-none Err refusal (Ok (width ch + width dh)) (join-accepted.1 p)
 
       full : LongRows top bot → Escapes ch → Escapes dh → width ch + width dh ≤ widest
-          → (p : ℕ) → (r ≡ Refused (PanelFull p)) ↔ Lowest (RaisedOver ch dh) p
+          → (p : ℕ) → (r ≡ Err (PanelFull p)) ↔ Lowest (RaisedOver ch dh) p
       full long esc₁ esc₂ narrow p =
           let same = passed-refusal long esc₁ esc₂ ∙ of-full ch dh esc₁ esc₂ narrow in
           let place = full-place ch dh esc₁ esc₂ p in (
-            λ q. place.0 (sym same ∙ refused-some refusal (width ch + width dh) (PanelFull p) (sym e ∙ q)),
-            λ l. e ∙ answered-some Refused refusal (Width (width ch + width dh)) (PanelFull p) (same ∙ place.1 l),
+            λ q. place.0 (sym same ∙ err→some (width ch + width dh) refusal (sym e ∙ q)),
+            λ l. e ∙ answered-some Err refusal (Ok (width ch + width dh)) (PanelFull p) (same ∙ place.1 l),
           )
 
-      promise : (w : ℕ) → r ≡ Width w → PanelPromise ch dh (rows (take w top') (take w bot'))
+      promise : (w : ℕ) → r ≡ Ok w → PanelPromise ch dh (rows (take w top') (take w bot'))
       promise w q = unfold filled_unless in (
           let a = accepted w q in
           let fit = (join-accepted.0 a.0).1 in
@@ -277,23 +262,23 @@ module _ (ch dh : Channel) (top bot : List ℕ) where
           let bots : take w bot' ≡ (joined ch dh).bot = front_of (joined ch dh).bot bot long₂ (rw a.0 at b) in
           subst (PanelPromise ch dh) (sym (ap₂ rows tops bots)) (panel-promise fit))
 
-  refused : {r : Refusal} → refusal ≡ some r → JoinDone ch dh top bot (Refused r) top bot
+  refused : {r : Refusal} → refusal ≡ some r → JoinDone ch dh top bot (Err r) top bot
   unfolding join_answer top_after bot_after answered filled_unless
   refused e = join-done (rw e) (rw e) (rw e)
 
   pub join-short : (length top < row_tray) ⊎ (length bot < row_tray)
-      → JoinDone ch dh top bot (Refused (ShortTray row_tray)) top bot
+      → JoinDone ch dh top bot (Err (ShortTray row_tray)) top bot
   unfolding join_refusal
   join-short h =
       refused (some-or-else (short_tray (trays (length top) (length bot))) _ _ (rows_short (length top) (length bot) h))
 
-  pub join-lists : {q : Refusal} → LongRows top bot → lists_answer ch dh ≡ checking.Refused q
-      → JoinDone ch dh top bot (Refused q) top bot
+  pub join-lists : {q : Refusal} → LongRows top bot → Err q ≡ lists_answer ch dh
+      → JoinDone ch dh top bot (Err q) top bot
   unfolding lists_answer
   join-lists {q} long e =
-      refused (long-refusal long ∙ some-or-else (lists_refusal ch dh) _ q (refused→some (lists_refusal ch dh) q e))
+      refused (long-refusal long ∙ some-or-else (lists_refusal ch dh) _ q (err→some tt (lists_refusal ch dh) (sym e)))
 
-  pub join-checked : {r : JoinAnswer} {top' bot' : List ℕ} → LongRows top bot → lists_answer ch dh ≡ checking.Accepted
+  pub join-checked : {r : Result ℕ Refusal} {top' bot' : List ℕ} → LongRows top bot → Ok tt ≡ lists_answer ch dh
       → CheckedJoined ch dh top bot r top' bot' → JoinDone ch dh top bot r top' bot'
   unfolding join_answer top_after bot_after
   join-checked long e c =
@@ -302,31 +287,31 @@ module _ (ch dh : Channel) (top bot : List ℕ) where
       join-done (rw same c.answer) (rw same c.top_held) (rw same c.bot_held)
 
 -- the check of both lists
-pub one-refused : (ch dh : Channel) {q : Refusal} → rows_answer ch ≡ checking.Refused q
-    → lists_answer ch dh ≡ checking.Refused q
+pub one-refused : (ch dh : Channel) {q : Refusal} → Err q ≡ rows_answer ch
+    → Err q ≡ lists_answer ch dh
 unfolding lists_answer lists_refusal rows_answer
 one-refused ch dh {q} e =
-    answered-some checking.Refused _ checking.Accepted q
-    (some-or-else (rows_refusal ch) (rows_refusal dh) q (refused→some (rows_refusal ch) q e))
+    sym (answered-some Err _ (Ok tt) q
+    (some-or-else (rows_refusal ch) (rows_refusal dh) q (err→some tt (rows_refusal ch) (sym e))))
 
-pub one-accepted : (ch dh : Channel) → rows_answer ch ≡ checking.Accepted → lists_answer ch dh ≡ rows_answer dh
+pub one-accepted : (ch dh : Channel) → Ok tt ≡ rows_answer ch → rows_answer dh ≡ lists_answer ch dh
 unfolding lists_answer lists_refusal rows_answer
 one-accepted ch dh e =
-    ap (λ (o : Option Refusal). answered checking.Refused o checking.Accepted)
-    (none-or-else-later (rows_refusal ch) (rows_refusal dh) (accepted→none (rows_refusal ch) e))
+    ap (λ (o : Option Refusal). ok_unless o tt)
+    (sym (none-or-else-later (rows_refusal ch) (rows_refusal dh) (ok→none tt (rows_refusal ch) (sym e)).0))
 
 -- the answer is told by its refusal, or by the width
 pub join-told : (a b : ℕ) (ch dh : Channel)
     → join_told (join_answer a b ch dh) ≡ told_by (join_refusal a b ch dh) ((width ch + width dh) ∷ [])
-unfolding join_answer join_told
-join-told a b ch dh = answered-told join_told Refused _ _ (λ r. refl) refl (join_refusal a b ch dh)
+unfolding join_answer
+join-told a b ch dh = told-ok_unless _ (join_refusal a b ch dh) (width ch + width dh)
 
 -- a width that is answered is at most 512
-pub width-told : {ch dh : Channel} {top bot top' bot' : List ℕ} {r : JoinAnswer} → JoinDone ch dh top bot r top' bot'
-    → {w : ℕ} → r ≡ Width w → w ≤ widest
+pub width-told : {ch dh : Channel} {top bot top' bot' : List ℕ} {r : Result ℕ Refusal} → JoinDone ch dh top bot r top' bot'
+    → {w : ℕ} → r ≡ Ok w → w ≤ widest
 unfolding join_answer
 width-told {ch} {dh} {top} {bot} done {w} q =
-    let s = width-none (join_refusal (length top) (length bot) ch dh) (width ch + width dh) w (sym done.answer ∙ q) in
+    let s = ok→none (width ch + width dh) (join_refusal (length top) (length bot) ch dh) (sym done.answer ∙ q) in
     let fits = ((join-accepted ch dh top bot).0 s.0).1.columns in
     let e = s.1 in
     omega arith

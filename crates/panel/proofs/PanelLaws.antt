@@ -1,4 +1,4 @@
--- What Req 09 of 02 promises of the joined list of two lists that fit.
+-- What Req 09 promises of the joined list of two lists that fit.
 use Rattle.std.specs.Prelude.{ℕ, max, ◌+◌, ◌-◌, ◌≤◌, ◌<◌, ◌≡◌, refl, ◌⊎◌, length, T}
 use Rattle.std.proofs.Common.{arith, ◌∙◌, subst, inl, inr, ⊎_elim}
 use Rattle.std.proofs.Math.Decide.{dec_le}

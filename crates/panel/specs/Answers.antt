@@ -1,18 +1,14 @@
--- 02, Req 09: the refusals of joining two lists, in their order and with their places, the answer, and what the lent
--- rows then hold.
-use Rattle.std.specs.Prelude.{ℕ, suc, ◌+◌, List, [], ◌∷◌, length, ltb}
+-- SCOPE, Req 09: the refusals of joining two lists, in their order and with their places, the answer, and what the
+-- lent rows then hold.
+use Rattle.std.specs.Prelude.{ℕ, suc, ◌+◌, List, [], ◌∷◌, length, ltb, Result}
 use Rattle.std.proofs.Math.Option.{Option}
 use Rattle.lists.specs.Lists.{keep, least}
 use Rattle.refusal.specs.declared.Refusal.{Refusal}
 use Rattle.refusal.specs.declared.Refusal.TheVariants.{TooWide, PanelFull}
-use Rattle.refusal.specs.Refusals.{Told, told_refusal, told_values, refuse_if, ◌or_else◌, answered, filled_unless}
+use Rattle.refusal.specs.Refusals.{Told, refuse_if, ◌or_else◌, ok_unless, told, filled_unless}
 use Rattle.refusal.specs.Trays.{row_tray, short_tray}
-use Rattle.channel.specs.declared.RowsAnswer.{RowsAnswer}
-use Rattle.channel.specs.declared.RowsAnswer.TheVariants as checking
 use Rattle.channel.specs.Channel.{Channel, width, positions, highest_net, widest}
 use Rattle.channel.specs.Answers.{rows_refusal}
-use Rattle.panel.specs.declared.JoinAnswer.{JoinAnswer}
-use Rattle.panel.specs.declared.JoinAnswer.TheVariants.{Width, Refused}
 use Rattle.panel.specs.Joined.{joined}
 
 -- "each list is checked alone, one then two"
@@ -42,12 +38,12 @@ join_refusal lentTop lentBot ch dh =
     lists_refusal ch dh or_else panel_refusal ch dh
 
 -- what the check of both lists answers
-unfoldable pub lists_answer : Channel → Channel → RowsAnswer
-lists_answer ch dh = answered checking.Refused (lists_refusal ch dh) checking.Accepted
+unfoldable pub lists_answer : Channel → Channel → Result (Unit {0}) Refusal
+lists_answer ch dh = ok_unless (lists_refusal ch dh) tt
 
-unfoldable pub join_answer : ℕ → ℕ → Channel → Channel → JoinAnswer
+unfoldable pub join_answer : ℕ → ℕ → Channel → Channel → Result ℕ Refusal
 join_answer lentTop lentBot ch dh =
-    answered Refused (join_refusal lentTop lentBot ch dh) (Width (width ch + width dh))
+    ok_unless (join_refusal lentTop lentBot ch dh) (width ch + width dh)
 
 -- the lent rows afterwards, where `top` and `bot` are those before it
 unfoldable pub top_after : Channel → Channel → List ℕ → List ℕ → List ℕ
@@ -56,6 +52,5 @@ top_after ch dh top bot = filled_unless (join_refusal (length top) (length bot) 
 unfoldable pub bot_after : Channel → Channel → List ℕ → List ℕ → List ℕ
 bot_after ch dh top bot = filled_unless (join_refusal (length top) (length bot) ch dh) (joined ch dh).bot bot
 
-unfoldable pub join_told : JoinAnswer → Told
-join_told (Width w) = told_values (w ∷ [])
-join_told (Refused r) = told_refusal r
+abbrev pub join_told : Result ℕ Refusal → Told
+join_told = told (λ w. w ∷ [])

@@ -1,4 +1,4 @@
--- 02, Req 09: two lists on one panel, as one list.
+-- SCOPE, Req 09: two lists on one panel, as one list.
 use Rattle.std.specs.Prelude.{ℕ, ◌+◌, ◌≤◌, List, ◌++◌, map, cond, eqb}
 use Rattle.lists.specs.Lists.{greatest}
 use Rattle.channel.specs.Channel.{Channel, rows, width, positions, highest_net, widest}

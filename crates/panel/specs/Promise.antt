@@ -1,4 +1,4 @@
--- What Req 09 of 02 promises of a joined list, as statements over the lists alone.
+-- What Req 09 promises of a joined list, as statements over the lists alone.
 use Rattle.std.specs.Prelude.{ℕ, max, ◌+◌, ◌<◌, ◌≡◌, ◌↔◌, ◌⊎◌, T}
 use mathlib.Core.List.{List, ◌++◌, map, Memᴰ}
 use Rattle.grid.specs.Pieces.{column, net}

@@ -1,5 +1,5 @@
-// Two lists on one panel (02, Req 09): the second list's columns follow the first's, and its net numbers are raised by
-// the first's highest.
+// Two lists on one panel (SCOPE, Req 09): the second list's columns follow the first's, and its net numbers are raised
+// by the first's highest.
 #![tactic(auto)]
 
 mod raising;
@@ -11,27 +11,16 @@ ghost use Rattle.channel.specs.Answers.{Escapes};
 ghost use Rattle.panel.specs.Answers.{lists_answer};
 ghost use Rattle.panel.specs.Code.{CheckedJoined, JoinDone};
 
-use channel::RowsAnswer;
 use grid::{HIGHEST_NET, WIDEST};
 use refusal::{ROW_TRAY, Refusal};
 
-// What joining two lists answers.
-#[derive(Clone, Copy)]
-pub enum JoinAnswer {
-    // both lent rows were filled up to this width
-    Width(usize),
-    Refused(Refusal),
-}
-
 // Accepts two lists, each alone, or refuses them with the first of refusals 3 to 5 that list one has, then list two.
-fn check_lists(top1: &[u32], bot1: &[u32], top2: &[u32], bot2: &[u32]) -> RowsAnswer
+fn check_lists(top1: &[u32], bot1: &[u32], top2: &[u32], bot2: &[u32]) -> Result<(), Refusal>
     ensures { result ≡ lists_answer (rows top1.now bot1.now)
         (rows top2.now bot2.now) }
 {
-    match channel::check(top1, bot1) {
-        RowsAnswer::Refused(refusal) => RowsAnswer::Refused(refusal),
-        RowsAnswer::Accepted => channel::check(top2, bot2),
-    }
+    channel::check(top1, bot1)?;
+    channel::check(top2, bot2)
 }
 
 // Joins two lists that each escape refusals 3 to 5 into rows that are long enough, or refuses them together.
@@ -42,7 +31,7 @@ fn join_checked(
     bot2: &[u32],
     top: &mut [u32],
     bot: &mut [u32],
-) -> JoinAnswer
+) -> Result<usize, Refusal>
     requires { Escapes (rows top1.now bot1.now) × Escapes (rows top2.now bot2.now)
         × (row_tray ≤ length top.old) × (row_tray ≤ length bot.old) }
     ensures { CheckedJoined (rows top1.now bot1.now) (rows top2.now bot2.now)
@@ -50,17 +39,17 @@ fn join_checked(
 {
     let width = top1.len() + top2.len();
     if WIDEST < width {
-        return JoinAnswer::Refused(Refusal::TooWide(WIDEST + 1));
+        return Err(Refusal::TooWide(WIDEST + 1));
     }
     let highest = raising::highest_of(top1, bot1);
     // a number over what is left to 511 is over 511 when it is raised
     let lowest = raising::lowest_of(top2, bot2, HIGHEST_NET - highest);
     if lowest <= HIGHEST_NET {
-        return JoinAnswer::Refused(Refusal::PanelFull((highest + lowest) as usize));
+        return Err(Refusal::PanelFull((highest + lowest) as usize));
     }
     raising::put_row(top1, top2, highest, top);
     raising::put_row(bot1, bot2, highest, bot);
-    JoinAnswer::Width(width)
+    Ok(width)
 }
 
 // Joins two lists of rows of any lengths and numbers, which are only read, into two lent rows: the joined width, or
@@ -73,15 +62,13 @@ pub fn join(
     bot2: &[u32],
     top: &mut [u32],
     bot: &mut [u32],
-) -> JoinAnswer
+) -> Result<usize, Refusal>
     ensures { JoinDone (rows top1.now bot1.now) (rows top2.now bot2.now)
         top.old bot.old result top.new bot.new }
 {
     if top.len() < ROW_TRAY || bot.len() < ROW_TRAY {
-        return JoinAnswer::Refused(Refusal::ShortTray(ROW_TRAY));
+        return Err(Refusal::ShortTray(ROW_TRAY));
     }
-    match check_lists(top1, bot1, top2, bot2) {
-        RowsAnswer::Refused(refusal) => JoinAnswer::Refused(refusal),
-        RowsAnswer::Accepted => join_checked(top1, bot1, top2, bot2, top, bot),
-    }
+    check_lists(top1, bot1, top2, bot2)?;
+    join_checked(top1, bot1, top2, bot2, top, bot)
 }

@@ -21,10 +21,8 @@ fn put_raised(row: &[u32], by: u32, to: &mut [u32], at: usize)
     requires { LowRow row.now × (by ≤ highest_net) × (at + length row.now ≤ length to.old) }
     ensures { to.new ≡ sets to.old at (map (raised by) row.now) }
 {
-    let mut i: usize = 0;
-    while i < row.len() {
-        to[at + i] = raise(row[i], by);
-        i += 1;
+    for (i, &n) in row.iter().enumerate() {
+        to[at + i] = raise(n, by);
     }
 }
 
@@ -51,10 +49,7 @@ pub fn highest_of(top: &[u32], bot: &[u32]) -> u32
 fn lowest_over(row: &[u32], limit: u32, mut lowest: u32) -> u32
     ensures { result ≡ lowest_over limit row.now lowest }
 {
-    let mut i: usize = 0;
-    while i < row.len() {
-        let n = row[i];
-        i += 1;
+    for &n in row {
         if limit < n && n < lowest {
             lowest = n;
         }

@@ -1,16 +1,14 @@
 -- The reader's parts over the automaton: a number, a word and a whole line, each as the code meets it at a place of the
 -- text.
-use Rattle.std.specs.Prelude.{ℕ, zero, suc, ◌+◌, ◌-◌, ◌*◌, ◌≤◌, ◌<◌, ◌≡◌, refl, List, [], ◌∷◌, ◌++◌, Bool, true, false, cond, length, get_or, drop, eqb}
+use Rattle.std.specs.Prelude.{ℕ, zero, suc, ◌+◌, ◌-◌, ◌*◌, ◌≤◌, ◌<◌, ◌≡◌, refl, List, [], ◌∷◌, ◌++◌, Bool, true, false, cond, length, get_or, drop, eqb, Option, Some, None, Ok, Err}
 use Rattle.std.proofs.Common.{arith, add-one, add-suc, add-zero, zero-add, sym, ◌∙◌, ap, subst, drop_of_length-le, length-drop, drop-cons, eqb→eq, eq-eqb, ne_eqb}
 use Rattle.std.proofs.Math.Decide.{dec_le}
 use Rattle.lists.specs.Lists.{within}
 use Rattle.lists.specs.Tests.{T→true, true→T, fails→false, within→, →within}
-use Rattle.pinlist.specs.declared.number.NumberRead.{NumberRead}
-use Rattle.pinlist.specs.declared.number.NumberRead.TheVariants as number
-use Rattle.pinlist.specs.declared.line.LineRead.TheVariants as line
+use Rattle.pinlist.specs.declared.number.Number.{Number}
 use Rattle.pinlist.specs.Reader.{Stand, due, zero_read, digits, returned, LineStep, on, closed, stuck}
 use Rattle.pinlist.specs.Reader.{after_number, first_digit, line_step}
-use Rattle.pinlist.specs.Code.{kept, digits_behind, number_from, number_read, spaces_end, RunOfSpaces, shared}
+use Rattle.pinlist.specs.Code.{number_to, line_to, stuck_at, kept, digits_behind, number_from, number_read, spaces_end, RunOfSpaces, shared}
 use Rattle.pinlist.specs.Code.{Lined, lined, broken, line_from, feed_read, line_read}
 
 -- the test for a byte between two others, by what it tells
@@ -21,17 +19,17 @@ outside-false : (a x b : ℕ) → ((a ≤ x) × (x ≤ b) → ⊥) → within a 
 outside-false a x b h = fails→false (within a x b) (λ t. h (within→ a x b t))
 
 -- a number, from the tests that the code makes of its bytes
-pub number-none : (text : List ℕ) (at : ℕ) → length text ≤ at → number_read text at ≡ number.Missing
+pub number-none : (text : List ℕ) (at : ℕ) → length text ≤ at → number_read text at ≡ None
 unfolding number_from
 number-none text at h = rw (drop_of_length-le text h)
 
 pub number-zero : (text : List ℕ) (at : ℕ) → at < length text → get_or text at 0 ≡ 48
-    → number_read text at ≡ number.Number 0 (at + 1)
+    → number_read text at ≡ Some (number_to 0 (at + 1))
 unfolding number_from
 number-zero text at h e = rw (add-one, drop-cons text at 0, eq-eqb (get_or text at 0) 48 e)
 
 pub number-other : (text : List ℕ) (at : ℕ) → at < length text → ((48 ≤ get_or text at 0) × (get_or text at 0 ≤ 57) → ⊥)
-    → number_read text at ≡ number.Missing
+    → number_read text at ≡ None
 unfolding number_from
 number-other text at h k =
     rw (
@@ -51,12 +49,12 @@ number-digit text at h l u =
       inside-true 49 (get_or text at 0) 57 l u,
     )
 
-pub digits-end : (text : List ℕ) (v k : ℕ) → length text ≤ k → digits_behind v k (drop k text) ≡ number.Number v k
+pub digits-end : (text : List ℕ) (v k : ℕ) → length text ≤ k → digits_behind v k (drop k text) ≡ Some (number_to v k)
 unfolding digits_behind
 digits-end text v k h = rw (drop_of_length-le text h)
 
 pub digits-stop : (text : List ℕ) (v k : ℕ) → k < length text → ((48 ≤ get_or text k 0) × (get_or text k 0 ≤ 57) → ⊥)
-    → digits_behind v k (drop k text) ≡ number.Number v k
+    → digits_behind v k (drop k text) ≡ Some (number_to v k)
 unfolding digits_behind
 digits-stop text v k h e = rw (drop-cons text k 0, outside-false 48 (get_or text k 0) 57 e)
 
@@ -163,9 +161,9 @@ pub record Standing (text ns : List ℕ) (from : ℕ) (line : Lined) (v j : ℕ)
   pub goes_on : line ≡ behind number ns j (drop j text)
 
 -- what the number that is read at a place says of the line there
-abbrev pub Tells : List ℕ → List ℕ → ℕ → Lined → NumberRead → Type 0
-Tells text ns from line number.Missing = line ≡ broken from
-Tells text ns from line (number.Number v j) = Standing text ns from line v j
+abbrev pub Tells : List ℕ → List ℕ → ℕ → Lined → Option Number → Type 0
+Tells text ns from line None = line ≡ broken from
+Tells text ns from line (Some n) = Standing text ns from line n.value n.next
 
 -- the rest of the text begins with this byte
 pub drop-next : (text : List ℕ) (k b : ℕ) (bs : List ℕ) → drop k text ≡ b ∷ bs → drop (suc k) text ≡ bs
@@ -198,7 +196,7 @@ digits-tell text ns from v n k (b ∷ bs) e l i q =
     go : (t : Bool) → within 48 b 57 ≡ t → Tells text ns from (line_from (digits (n * 10 + (b - 48))) ns (suc k) bs)
         (digits_behind (kept (v * 10 + (b - 48))) (suc k) bs)
         → Tells text ns from (line_from (digits n) ns k (b ∷ bs))
-        (cond t (digits_behind (kept (v * 10 + (b - 48))) (suc k) bs) (number.Number v k))
+        (cond t (digits_behind (kept (v * 10 + (b - 48))) (suc k) bs) (Some (number_to v k)))
     go true t more =
         subst (λ (line : Lined). Tells text ns from line (digits_behind (kept (v * 10 + (b - 48))) (suc k) bs))
         (sym (line_on (digits n) (digits (n * 10 + (b - 48))) ns ns b k bs (digit-on n ns b t))) more
@@ -244,7 +242,7 @@ number-from text ns k b bs s q = go (eqb b 48) refl (within 49 b 57) refl
 
     go : (t : Bool) → eqb b 48 ≡ t → (u : Bool) → within 49 b 57 ≡ u
         → Tells text ns k (line_from (due []) ns k (b ∷ bs))
-        (cond t (number.Number 0 (suc k)) (cond u (digits_behind (b - 48) (suc k) bs) number.Missing))
+        (cond t (Some (number_to 0 (suc k))) (cond u (digits_behind (b - 48) (suc k) bs) None))
     go true t u v =
         record {
           number = 0;
@@ -387,23 +385,23 @@ returned-tells ns k (b ∷ bs) = go (eqb b 10)
         elim (cond t (closed ns) stuck)
         [ on s' ns' ↦ line_from s' ns' (suc k) bs | closed ns' ↦ lined ns' (suc k) | stuck ↦ broken k ]
 
-    go : (t : Bool) → (cond t (line.Line (length ns) (suc k)) (line.Stuck k) ≡ line_read (after t))
+    go : (t : Bool) → (cond t (Ok (line_to (length ns) (suc k))) (Err (stuck_at k)) ≡ line_read (after t))
         × ((row : List ℕ) (j : ℕ) → after t ≡ lined row j → ns ≡ row)
     go true = (refl, λ row j e. cc)
     go false = (refl, λ row j e. absurd (let z : ◌≡◌ {A = ℕ} 0 1 = cc in omega arith))
 
 -- the line feed that is due, from the tests that the code makes
-pub feed-none : (text : List ℕ) (count k : ℕ) → length text ≤ k → feed_read count k (drop k text) ≡ line.Stuck k
+pub feed-none : (text : List ℕ) (count k : ℕ) → length text ≤ k → feed_read count k (drop k text) ≡ Err (stuck_at k)
 unfolding feed_read
 feed-none text count k h = rw (drop_of_length-le text h)
 
 pub feed-missing : (text : List ℕ) (count k : ℕ) → k < length text → (get_or text k 0 ≡ 10 → ⊥)
-    → feed_read count k (drop k text) ≡ line.Stuck k
+    → feed_read count k (drop k text) ≡ Err (stuck_at k)
 unfolding feed_read
 feed-missing text count k h e = rw (drop-cons text k 0, ne_eqb (get_or text k 0) 10 e)
 
 pub feed-there : (text : List ℕ) (count k : ℕ) → k < length text → get_or text k 0 ≡ 10
-    → feed_read count k (drop k text) ≡ line.Line count (k + 1)
+    → feed_read count k (drop k text) ≡ Ok (line_to count (k + 1))
 unfolding feed_read
 feed-there text count k h e = rw (add-one, drop-cons text k 0, eq-eqb (get_or text k 0) 10 e)
 

@@ -1,6 +1,6 @@
 -- What reading a text answers and leaves, case by case: short rows, a garbled text, rows too wide, and what the check
 -- of the kept rows says.
-use Rattle.std.specs.Prelude.{ℕ, suc, ◌≤◌, ◌<◌, refl, ◌↔◌, ◌⊎◌, ◌||◌, take}
+use Rattle.std.specs.Prelude.{ℕ, suc, ◌≤◌, ◌<◌, refl, ◌↔◌, ◌⊎◌, ◌||◌, take, Result, Ok, Err}
 use native.Mathlib.Omega.{arith}
 use Rattle.std.proofs.Math.Decide.{dec_le}
 use Rattle.std.proofs.Math.Path.{◌≡◌, ap}
@@ -17,20 +17,14 @@ use Rattle.lists.specs.Tests.{or_left, or_right}
 use Rattle.lists.specs.Overlays.{overlay-front}
 use Rattle.refusal.specs.declared.Refusal.{Refusal}
 use Rattle.refusal.specs.declared.Refusal.TheVariants.{ShortTray, Garbled, TooWide}
-use Rattle.refusal.specs.Refusals.{refuse_at_first, ◌or_else◌, answered, filled_unless}
-use Rattle.refusal.specs.ChainLaws.{or_else_some, some-or-else, some-refuse-if}
+use Rattle.refusal.specs.Refusals.{refuse_at_first, ◌or_else◌, answered, ok_unless, filled_unless}
+use Rattle.refusal.specs.ChainLaws.{or_else_some, some-or-else, some-refuse-if, ok→none, err→some}
 use Rattle.refusal.specs.Trays.{row_tray, short_tray}
-use Rattle.channel.specs.declared.RowsAnswer.{RowsAnswer}
-use Rattle.channel.specs.declared.RowsAnswer.TheVariants as checked
 use Rattle.channel.specs.Channel as channel
 use Rattle.channel.specs.Channel.{Channel, width, widest}
-use Rattle.channel.proofs.BoundLaws.{accepted→none, refused→some}
 use Rattle.channel.specs.Answers.{too_wide, uneven, high_net, rows_refusal, rows_answer}
 use Rattle.channel.proofs.ToldLaws.{rows-numbers}
-use Rattle.pinlist.specs.declared.ReadAnswer.{ReadAnswer}
-use Rattle.pinlist.specs.declared.ReadAnswer.TheVariants.{Width, Refused}
-use Rattle.pinlist.specs.declared.TextRead.{TextRead}
-use Rattle.pinlist.specs.declared.TextRead.TheVariants as answer
+use Rattle.pinlist.specs.declared.line.Stuck.{Stuck}
 use Rattle.pinlist.specs.Reader as reader
 use Rattle.pinlist.specs.Reader.{rows, garbled, read_text}
 use Rattle.pinlist.specs.Answers.{
@@ -45,19 +39,19 @@ use Rattle.pinlist.specs.Answers.{
 }
 use Rattle.pinlist.specs.Form.{GarbledAt}
 use Rattle.pinlist.proofs.ReaderLaws.{read-exactly}
-use Rattle.pinlist.specs.Code.{kept, text_read, Parsed, ReadDone}
+use Rattle.pinlist.specs.Code.{stuck_at, kept, text_read, Parsed, ReadDone}
 use Rattle.pinlist.proofs.RowLaws.{Held}
 use Rattle.pinlist.specs.KeptLaws.{kept_channel, kept-refusal, accepted-same}
 
 -- what a parsed text was
-pub parsed-garbled : (text t b t' b' : List ℕ) (r : TextRead) {k : ℕ} → Parsed text t b r t' b'
-    → r ≡ answer.Garbled k → read_text text ≡ garbled k
+pub parsed-garbled : (text t b t' b' : List ℕ) {stuck : Stuck} → Parsed text t b (Err stuck) t' b'
+    → read_text text ≡ garbled stuck.0
 unfolding text_read
-parsed-garbled text t b t' b' r {k} p e = go (read_text text) (sym p.answer ∙ e)
+parsed-garbled text t b t' b' {stuck} p = go (read_text text) p.answer
   where
-    go : (w : reader.TextRead) → text_read w ≡ answer.Garbled k → w ≡ garbled k
-    go (rows ts bs) q = absurd (let z : ◌≡◌ {A = ℕ} 0 1 = cc in omega arith)
-    go (garbled j) q = cc
+    go : (w : reader.TextRead) → Err stuck ≡ text_read w → w ≡ garbled stuck.0
+    go (rows ts bs) q = cc
+    go (garbled j) q = let same : stuck ≡ stuck_at j = cc in ap (λ (e : Stuck). garbled e.0) (sym same)
 
 -- the arrays hold the numbers of the two rows, whatever they held before
 pub record BothRows (text t' b' : List ℕ) (a c : ℕ) : Type 0 where
@@ -71,15 +65,15 @@ pub record BothRows (text t' b' : List ℕ) (a c : ℕ) : Type 0 where
   pub top_held : Held top t t'
   pub bot_held : Held bot b b'
 
-pub parsed-rows : (text t b t' b' : List ℕ) (r : TextRead) {a c : ℕ} → Parsed text t b r t' b'
-    → r ≡ answer.Rows a c → BothRows text t' b' a c
+pub parsed-rows : (text t b t' b' : List ℕ) {a c : ℕ} → Parsed text t b (Ok (a, c)) t' b' → BothRows text t' b' a c
 unfolding text_read
-parsed-rows text t b t' b' r {a} {c} p e = go (read_text text) refl (sym p.answer ∙ e)
+parsed-rows text t b t' b' {a} {c} p = go (read_text text) refl p.answer
   where
-    go : (w : reader.TextRead) → read_text text ≡ w → text_read w ≡ answer.Rows a c → BothRows text t' b' a c
+    go : (w : reader.TextRead) → read_text text ≡ w → Ok (a, c) ≡ text_read w → BothRows text t' b' a c
     go (rows ts bs) h q =
-        let first : a ≡ length ts = cc in
-        let second : c ≡ length bs = cc in
+        let both : (a, c) ≡ (length ts, length bs) = cc in
+        let first = ap (λ (k : ℕ × ℕ). k.0) both in
+        let second = ap (λ (k : ℕ × ℕ). k.1) both in
         record {
           t = t;
           b = b;
@@ -91,7 +85,7 @@ parsed-rows text t b t' b' r {a} {c} p e = go (read_text text) refl (sym p.answe
           top_held = p.top_held ts bs h;
           bot_held = p.bot_held ts bs h;
         }
-    go (garbled j) h q = absurd (let z : ◌≡◌ {A = ℕ} 0 1 = cc in omega arith)
+    go (garbled j) h q = cc
 
 -- the front of an array that holds a row is the row as it is kept
 front : (ns row : List ℕ) {row' : List ℕ} {a : ℕ} → Held ns row row' → a ≡ length ns → a ≤ widest
@@ -134,22 +128,17 @@ module _ (text top bot : List ℕ) where
       go (garbled m) e = cc
 
   answered-garbled : row_tray ≤ length top → row_tray ≤ length bot → (n : ℕ)
-      → (read_answer text (length top) (length bot) ≡ Refused (Garbled n)) ↔ GarbledAt text n
+      → (read_answer text (length top) (length bot) ≡ Err (Garbled n)) ↔ GarbledAt text n
   unfolding read_answer answered
   answered-garbled long₁ long₂ n =
       let exactly = (read-exactly text).garbled-exactly n in
       let same = long-rows long₁ long₂ in (
-        λ e. exactly.0 ((text-refusal n).0 (sym same ∙ go (read_refusal text (length top) (length bot)) e)),
+        λ e. exactly.0 ((text-refusal n).0 (sym same ∙ err→some _ (read_refusal text (length top) (length bot)) e)),
         λ g. rw (same, (text-refusal n).1 (exactly.1 g)),
       )
-    where
-      go : (o : Option Refusal) → answered Refused o (Width (width (text_channel text))) ≡ Refused (Garbled n)
-          → o ≡ some (Garbled n)
-      go none e = absurd (let z : ◌≡◌ {A = ℕ} 0 1 = cc in omega arith)
-      go (some q) e = cc
 
   -- the equations give the whole contract
-  done : {r : ReadAnswer} {top' bot' : List ℕ} → r ≡ read_answer text (length top) (length bot)
+  done : {r : Result ℕ Refusal} {top' bot' : List ℕ} → r ≡ read_answer text (length top) (length bot)
       → top' ≡ top_after text top bot → bot' ≡ bot_after text top bot → ReadDone text top bot r top' bot'
   done e t b =
       record {
@@ -161,13 +150,13 @@ module _ (text top bot : List ℕ) where
       }
 
   refused : {r : Refusal} → read_refusal text (length top) (length bot) ≡ some r
-      → ReadDone text top bot (Refused r) top bot
+      → ReadDone text top bot (Err r) top bot
   unfolding read_answer top_after bot_after answered filled_unless
   refused e = done (rw e) (rw e) (rw e)
 
   -- refusal 1
   pub short-rows : (length top < row_tray) ⊎ (length bot < row_tray)
-      → ReadDone text top bot (Refused (ShortTray row_tray)) top bot
+      → ReadDone text top bot (Err (ShortTray row_tray)) top bot
   unfolding read_refusal short_tray keep refuse_at_first ◌or_else◌
   short-rows h = refused (go (dec_le row_tray (length top)))
     where
@@ -179,7 +168,7 @@ module _ (text top bot : List ℕ) where
 
   module _ (long₁ : row_tray ≤ length top) (long₂ : row_tray ≤ length bot) where
     -- refusal 2
-    pub text-garbled : (k : ℕ) → read_text text ≡ garbled k → ReadDone text top bot (Refused (Garbled k)) top bot
+    pub text-garbled : (k : ℕ) → read_text text ≡ garbled k → ReadDone text top bot (Err (Garbled k)) top bot
     unfolding text_refusal garbled_refusal ◌or_else◌
     text-garbled k e = refused (long-rows long₁ long₂ ∙ rw e)
 
@@ -192,7 +181,7 @@ module _ (text top bot : List ℕ) where
       of-rows = long-rows long₁ long₂ ∙ rw both.read
 
       -- refusal 3
-      pub rows-wide : (widest < a) ⊎ (widest < c) → ReadDone text top bot (Refused (TooWide (suc widest))) top bot
+      pub rows-wide : (widest < a) ⊎ (widest < c) → ReadDone text top bot (Err (TooWide (suc widest))) top bot
       unfolding rows_refusal too_wide
       rows-wide h =
           let one = ltb widest (length both.top) in
@@ -206,21 +195,21 @@ module _ (text top bot : List ℕ) where
           refused (of-rows ∙ some-or-else (too_wide ch) (uneven ch or_else high_net ch) _ said)
 
       -- 3 to 5, as the check of the kept rows says them
-      module _ (narrow₁ : a ≤ widest) (narrow₂ : c ≤ widest) (r : RowsAnswer)
-          (check : r ≡ rows_answer (channel.rows (take a t') (take c b'))) where
-        said : r ≡ answered checked.Refused (rows_refusal ch) checked.Accepted
+      module _ (narrow₁ : a ≤ widest) (narrow₂ : c ≤ widest) where
+        said : rows_answer (channel.rows (take a t') (take c b')) ≡ ok_unless (rows_refusal ch) tt
         unfolding rows_answer
         said =
-            check ∙ ap (λ (o : Option Refusal). answered checked.Refused o checked.Accepted)
+            ap (λ (o : Option Refusal). ok_unless o tt)
             (ap rows_refusal (ap₂ channel.rows (top-front both narrow₁) (bot-front both narrow₂)) ∙ kept-refusal ch)
 
-        pub check-refuses : {q : Refusal} → r ≡ checked.Refused q → ReadDone text top bot (Refused q) top bot
-        check-refuses {q} e = refused (of-rows ∙ refused→some (rows_refusal ch) q (sym said ∙ e))
+        pub check-refuses : {q : Refusal} → Err q ≡ rows_answer (channel.rows (take a t') (take c b'))
+            → ReadDone text top bot (Err q) top bot
+        check-refuses e = refused (of-rows ∙ err→some tt (rows_refusal ch) (sym (e ∙ said)))
 
         -- accepted: the rows are copied to the fronts of the lent ones
-        pub check-accepts : (top' bot' : List ℕ) → r ≡ checked.Accepted
+        pub check-accepts : (top' bot' : List ℕ) → Ok tt ≡ rows_answer (channel.rows (take a t') (take c b'))
             → top' ≡ overlay (take a t') top → bot' ≡ overlay (take c b') bot
-            → ReadDone text top bot (Width a) top' bot'
+            → ReadDone text top bot (Ok a) top' bot'
         unfolding read_answer top_after bot_after answered filled_unless channel_of
         check-accepts top' bot' e p q =
             done (rw (of-rows, accepted, both.read, both.top_count))
@@ -230,7 +219,7 @@ module _ (text top bot : List ℕ) where
             (ap (λ (l : List ℕ). overlay l bot) (bot-front both narrow₂ ∙ ap (λ (k : Channel). k.bot) same)))
           where
             accepted : rows_refusal ch ≡ none
-            accepted = accepted→none (rows_refusal ch) (sym said ∙ e)
+            accepted = (ok→none tt (rows_refusal ch) (sym (e ∙ said))).0
 
             same : kept_channel ch ≡ ch
             same = accepted-same ch accepted

@@ -1,14 +1,13 @@
 -- A whole text is read as its first line, then its second, and nothing may follow.
-use Rattle.std.specs.Prelude.{ℕ, suc, ◌≤◌, ◌<◌, refl, length, drop}
+use Rattle.std.specs.Prelude.{ℕ, suc, ◌≤◌, ◌<◌, refl, length, drop, Ok, Err}
 use Rattle.std.proofs.Common.{arith, sym, ◌∙◌, ap, drop_of_length-le, drop-cons}
 use Rattle.std.proofs.Math.Path.{◌≡◌, subst}
 use mathlib.Core.List.{List, [], ◌∷◌}
 use Rattle.std.proofs.Math.Option.{none, some}
 use Rattle.lists.specs.Bytes.{bytes}
-use Rattle.pinlist.specs.declared.TextRead.TheVariants as answer
 use Rattle.pinlist.specs.Reader.{Stand, due, LineStep, on, closed, stuck, line_step, in_top, in_bot, ended, top_step}
 use Rattle.pinlist.specs.Reader.{bot_step, step, TextRead, rows, garbled, at_end, read_from, read_text}
-use Rattle.pinlist.specs.Code.{Lined, lined, broken, line_from, text_read, Parsed}
+use Rattle.pinlist.specs.Code.{stuck_at, Lined, lined, broken, line_from, text_read, Parsed}
 use Rattle.pinlist.proofs.CodeLaws.{drop-next}
 use Rattle.pinlist.proofs.RowLaws.{Held, Whole}
 
@@ -70,7 +69,7 @@ ended-garbled text top bot k h = rw (drop-cons text k 0)
 
 -- what is read of a whole text, from what is read of its lines
 module _ (text top bot top' bot' : List ℕ) where
-  all-garbled : (k : ℕ) → read_text text ≡ garbled k → Parsed text top bot (answer.Garbled k) top' bot'
+  all-garbled : (k : ℕ) → read_text text ≡ garbled k → Parsed text top bot (Err (stuck_at k)) top' bot'
   unfolding text_read
   all-garbled k e =
       record {
@@ -80,7 +79,7 @@ module _ (text top bot top' bot' : List ℕ) where
       }
 
   pub top-garbled : (k : ℕ) → line_from (due (bytes "TOP ")) [] 0 text ≡ broken k
-      → Parsed text top bot (answer.Garbled k) top' bot'
+      → Parsed text top bot (Err (stuck_at k)) top' bot'
   top-garbled k e = all-garbled k (text-read text ∙ ap (after_top text) e)
 
   module _ {tops next : ℕ} (first : Whole (bytes "TOP ") text 0 top top' tops next) where
@@ -88,17 +87,17 @@ module _ (text top bot top' bot' : List ℕ) where
     behind-top = text-read text ∙ (ap (after_top text) first.read ∙ bot-read text first.numbers next)
 
     pub bot-garbled : (k : ℕ) → line_from (due (bytes "BOT ")) [] next (drop next text) ≡ broken k
-        → Parsed text top bot (answer.Garbled k) top' bot'
+        → Parsed text top bot (Err (stuck_at k)) top' bot'
     bot-garbled k e = all-garbled k (behind-top ∙ ap (after_bot text first.numbers) e)
 
     pub more-garbled : {bots end : ℕ} → Whole (bytes "BOT ") text next bot bot' bots end → end < length text
-        → Parsed text top bot (answer.Garbled end) top' bot'
+        → Parsed text top bot (Err (stuck_at end)) top' bot'
     more-garbled {bots} {end} second h =
         all-garbled end (behind-top ∙ (ap (after_bot text first.numbers) second.read
         ∙ ended-garbled text first.numbers second.numbers end h))
 
     pub both-whole : {bots end : ℕ} → Whole (bytes "BOT ") text next bot bot' bots end → length text ≤ end
-        → Parsed text top bot (answer.Rows tops bots) top' bot'
+        → Parsed text top bot (Ok (tops, bots)) top' bot'
     unfolding text_read
     both-whole {bots} {end} second h =
         let all = behind-top ∙ (ap (after_bot text first.numbers) second.read

@@ -1,15 +1,13 @@
--- 01, refusals 1 to 5 of a text that is read into two lent rows: the answer, and what each row then holds.
-use Rattle.std.specs.Prelude.{ℕ, List, [], ◌∷◌, length}
+-- SCOPE, refusals 1 to 5 of a text that is read into two lent rows: the answer, and what each row then holds.
+use Rattle.std.specs.Prelude.{ℕ, List, [], ◌∷◌, length, Result}
 use Rattle.std.proofs.Math.Option.{Option, none, some}
 use Rattle.refusal.specs.declared.Refusal.{Refusal}
 use Rattle.refusal.specs.declared.Refusal.TheVariants.{Garbled}
-use Rattle.refusal.specs.Refusals.{Told, told_refusal, told_values, ◌or_else◌, answered, filled_unless}
+use Rattle.refusal.specs.Refusals.{Told, ◌or_else◌, ok_unless, told, filled_unless}
 use Rattle.refusal.specs.Trays.{row_tray, short_tray}
 use Rattle.channel.specs.Channel as channel
 use Rattle.channel.specs.Channel.{Channel, width}
 use Rattle.channel.specs.Answers.{rows_refusal}
-use Rattle.pinlist.specs.declared.ReadAnswer.{ReadAnswer}
-use Rattle.pinlist.specs.declared.ReadAnswer.TheVariants.{Width, Refused}
 use Rattle.pinlist.specs.Reader.{TextRead, rows, garbled, read_text}
 
 -- 2: "not the form above"
@@ -35,8 +33,8 @@ read_refusal text lentTop lentBot =
     short_tray (record { lent = lentTop; needed = row_tray } ∷ record { lent = lentBot; needed = row_tray } ∷ []) or_else
     text_refusal text
 
-unfoldable pub read_answer : List ℕ → ℕ → ℕ → ReadAnswer
-read_answer text lentTop lentBot = answered Refused (read_refusal text lentTop lentBot) (Width (width (text_channel text)))
+unfoldable pub read_answer : List ℕ → ℕ → ℕ → Result ℕ Refusal
+read_answer text lentTop lentBot = ok_unless (read_refusal text lentTop lentBot) (width (text_channel text))
 
 -- the lent rows after reading, where `top` and `bot` are those before it
 unfoldable pub top_after : List ℕ → List ℕ → List ℕ → List ℕ
@@ -45,6 +43,5 @@ top_after text top bot = filled_unless (read_refusal text (length top) (length b
 unfoldable pub bot_after : List ℕ → List ℕ → List ℕ → List ℕ
 bot_after text top bot = filled_unless (read_refusal text (length top) (length bot)) (text_channel text).bot bot
 
-unfoldable pub read_told : ReadAnswer → Told
-read_told (Width w) = told_values (w ∷ [])
-read_told (Refused r) = told_refusal r
+abbrev pub read_told : Result ℕ Refusal → Told
+read_told = told (λ w. w ∷ [])

@@ -1,14 +1,14 @@
--- 01, "Pin list", as 02, Req 01, widens it: the form of a text, and the place at which a text that has not the form is
+-- SCOPE, "Pin list", as Req 01 widens it: the form of a text, and the place at which a text that has not the form is
 -- garbled.
 use Rattle.std.specs.Prelude.{ℕ, ◌≤◌, ◌≡◌, List, [], ◌∷◌, ◌++◌, length, take}
 use Rattle.lists.specs.Bytes.{bytes, decimal}
 
--- 02, Req 01: "One or more spaces may now stand before each number" (01: a space is hexadecimal 20)
+-- SCOPE, Req 01: "One or more spaces may now stand before each number" (a space is hexadecimal 20)
 pub data Gap : List ℕ → Type 0 where
   space : Gap (0x20 ∷ [])
   wider : {gap : List ℕ} → Gap gap → Gap (0x20 ∷ gap)
 
--- "one line feed (0A)"; 02, Req 01: "and one carriage return (hexadecimal 0D) before each line feed"
+-- "one line feed (0A)"; SCOPE, Req 01: "and one carriage return (hexadecimal 0D) before each line feed"
 pub data LineEnd : List ℕ → Type 0 where
   feed : LineEnd (0x0A ∷ [])
   return-feed : LineEnd (0x0D ∷ (0x0A ∷ []))

@@ -1,17 +1,30 @@
 // A line of a pin list: its word, then spaces and a number one or more times, then a line end.
 ghost use Rattle.std.specs.Prelude.{◌≡◌, ◌+◌, ◌≤◌, [], length, drop, set};
 ghost use Rattle.channel.specs.Channel.{widest};
+ghost use Rattle.refusal.specs.declared.Refusal.TheVariants.{Garbled};
 ghost use Rattle.pinlist.specs.Code.{shared, feed_read, LineDone};
 
-use crate::number::{NumberRead, read_number};
+use crate::number::{Number, read_number};
 use grid::WIDEST;
+use refusal::Refusal;
 
-// What a line is read as: how many numbers it has and the place behind it, or the place of the byte that does not
-// belong.
-#[derive(Clone, Copy)]
-pub enum LineRead {
-    Line { count: usize, next: usize },
-    Stuck(usize),
+// A line that was read: how many numbers it has, and the place behind it.
+#[derive(Clone, Copy, Debug, PartialEq, Eq)]
+pub struct Line {
+    pub count: usize,
+    pub next: usize,
+}
+
+// A text is no pin list: the place of the byte that does not belong.
+#[derive(Clone, Copy, Debug, PartialEq, Eq)]
+pub struct Stuck(pub usize);
+
+impl From<Stuck> for Refusal {
+    ghost from_gives = { λ stuck refusal. refusal ≡ Garbled stuck.0 };
+
+    fn from(stuck: Stuck) -> Refusal {
+        Refusal::Garbled(stuck.0)
+    }
 }
 
 // How many bytes of `word` stand at `at`, from the first on.
@@ -19,15 +32,13 @@ fn shared_word(text: &[u8], at: usize, word: &[u8; 4]) -> usize
     requires { (at ≤ length text.now) × (length word.now ≡ 4) }
     ensures { result ≡ shared word.now (drop at text.now) }
 {
-    let mut i: usize = 0;
-    while i < 4 {
+    for i in 0..4 {
         if text.len() - at <= i {
             return i;
         }
         if text[at + i] != word[i] {
             return i;
         }
-        i += 1;
     }
     4
 }
@@ -43,23 +54,23 @@ fn keep_number(row: &mut [u32; WIDEST], place: usize, value: u32)
 }
 
 // Ends a line of so many numbers behind a carriage return: a line feed is due at `at`.
-fn end_line(text: &[u8], at: usize, count: usize) -> LineRead
+fn end_line(text: &[u8], at: usize, count: usize) -> Result<Line, Stuck>
     ensures { result ≡ feed_read count at (drop at text.now) }
 {
     if text.len() <= at {
-        return LineRead::Stuck(at);
+        return Err(Stuck(at));
     }
     if text[at] != b'\n' {
-        return LineRead::Stuck(at);
+        return Err(Stuck(at));
     }
-    LineRead::Line {
+    Ok(Line {
         count,
         next: at + 1,
-    }
+    })
 }
 
 // Reads the numbers of a line into a row, from the place behind the first space.
-fn read_numbers(text: &[u8], from: usize, row: &mut [u32; WIDEST]) -> LineRead
+fn read_numbers(text: &[u8], from: usize, row: &mut [u32; WIDEST]) -> Result<Line, Stuck>
     requires { (from ≤ length text.now) × (length row.old ≡ widest) }
     ensures { LineDone [] text.now from row.old result row.new }
 {
@@ -68,39 +79,44 @@ fn read_numbers(text: &[u8], from: usize, row: &mut [u32; WIDEST]) -> LineRead
     loop {
         let found = read_number(text, at);
         let number = found.number;
-        let NumberRead::Number { value, next } = number else {
-            return LineRead::Stuck(found.from);
+        let Some(Number { value, next }) = number else {
+            return Err(Stuck(found.from));
         };
         keep_number(row, count, value);
         count += 1;
         if text.len() <= next {
-            return LineRead::Stuck(next);
+            return Err(Stuck(next));
         }
         let b = text[next];
         if b == b'\n' {
-            return LineRead::Line {
+            return Ok(Line {
                 count,
                 next: next + 1,
-            };
+            });
         }
         if b == b'\r' {
             return end_line(text, next + 1, count);
         }
         if b != b' ' {
-            return LineRead::Stuck(next);
+            return Err(Stuck(next));
         }
         at = next + 1;
     }
 }
 
 // Reads one line that begins at byte `at` with a word and a space.
-pub fn read_line(text: &[u8], at: usize, word: &[u8; 4], row: &mut [u32; WIDEST]) -> LineRead
+pub fn read_line(
+    text: &[u8],
+    at: usize,
+    word: &[u8; 4],
+    row: &mut [u32; WIDEST],
+) -> Result<Line, Stuck>
     requires { (at ≤ length text.now) × (length word.now ≡ 4) × (length row.old ≡ widest) }
     ensures { LineDone word.now text.now at row.old result row.new }
 {
     let same = shared_word(text, at, word);
     if same < 4 {
-        return LineRead::Stuck(at + same);
+        return Err(Stuck(at + same));
     }
     read_numbers(text, at + 4, row)
 }

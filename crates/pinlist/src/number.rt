@@ -5,19 +5,18 @@ ghost use Rattle.pinlist.specs.Code.{kept, spaces_end, number_read, NumberFound}
 
 use grid::HIGHEST_NET;
 
-// What stands at a place where a number is due.
-#[derive(Clone, Copy)]
-pub enum NumberRead {
-    // a number, 512 where it is over 511, and the place behind it
-    Number { value: u32, next: usize },
-    Missing,
+// A number that was read, 512 where it is over 511, and the place behind it.
+#[derive(Clone, Copy, Debug, PartialEq, Eq)]
+pub struct Number {
+    pub value: u32,
+    pub next: usize,
 }
 
-// What the number reader answers: the end of a run of spaces, and what stands there.
-#[derive(Clone, Copy)]
+// What the number reader answers: the end of a run of spaces, and the number that stands there, if one does.
+#[derive(Clone, Copy, Debug, PartialEq, Eq)]
 pub struct NumberAt {
     pub from: usize,
-    pub number: NumberRead,
+    pub number: Option<Number>,
 }
 
 // Reads the number behind the run of spaces, of none or more, that begins at byte `at`.
@@ -44,33 +43,34 @@ fn spaces_end(text: &[u8], at: usize) -> usize
 }
 
 // Reads the number that begins at byte `at`: 0, or digits with no leading zero, as many as there are.
-fn number_at(text: &[u8], at: usize) -> NumberRead
+fn number_at(text: &[u8], at: usize) -> Option<Number>
     ensures { result ≡ number_read text.now at }
 {
     if text.len() <= at {
-        return NumberRead::Missing;
+        return None;
     }
     let first = text[at];
     if first < b'0' || b'9' < first {
-        return NumberRead::Missing;
+        return None;
     }
     if first == b'0' {
-        return NumberRead::Number {
+        return Some(Number {
             value: 0,
             next: at + 1,
-        };
+        });
     }
     let mut value = (first - b'0') as u32;
-    let mut next = at + 1;
-    while next < text.len() {
+    for next in at + 1..text.len() {
         let b = text[next];
         if b < b'0' || b'9' < b {
-            return NumberRead::Number { value, next };
+            return Some(Number { value, next });
         }
         value = with_digit(value, b);
-        next += 1;
     }
-    NumberRead::Number { value, next }
+    Some(Number {
+        value,
+        next: text.len(),
+    })
 }
 
 // The value with one more digit behind it, 512 where it is over 511.

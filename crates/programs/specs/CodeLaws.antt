@@ -1,6 +1,6 @@
 -- From what the library's functions answer to what the programs write: of a text that is refused or read, of a refusal,
 -- and of a board that is judged.
-use Rattle.std.specs.Prelude.{ℕ, suc, ◌≤◌, ◌<◌, refl, List, [], ◌∷◌, ◌++◌, take}
+use Rattle.std.specs.Prelude.{ℕ, suc, ◌≤◌, ◌<◌, refl, List, [], ◌∷◌, ◌++◌, take, Result, Ok, Err}
 use Prim.Native.String.{String}
 use Rattle.std.proofs.Common.{arith, ◌∙◌, append-nil, length-take-le, lt-ltb, le-ltb, eq-eqb, ne_eqb}
 use Rattle.std.proofs.Math.Path.{◌≡◌, sym, ap, subst}
@@ -9,18 +9,13 @@ use Rattle.std.proofs.Math.ListN.{length, length-take}
 use Rattle.io.specs.Counts.{IsPrefixLen}
 use Rattle.lists.specs.Overlays.{overlay-front}
 use Rattle.refusal.specs.declared.Refusal.{Refusal}
-use Rattle.refusal.specs.Refusals.{told_at, Told, number_of, place_of, refuse_if, answered, filled_unless}
-use Rattle.refusal.specs.ChainLaws.{or_else_none, answered-none, answered-some}
+use Rattle.refusal.specs.Refusals.{told_at, Told, number_of, place_of, refuse_if, ok_unless, filled_unless}
+use Rattle.refusal.specs.ChainLaws.{or_else_none, answered-none, answered-some, ok→none, err→some}
 use Rattle.refusal.specs.TrayLaws.{refusal-numbered}
 use Rattle.refusal.specs.Trays.{row_tray, record_tray}
-use Rattle.channel.specs.declared.BoundsAnswer.TheVariants as bounds
 use Rattle.channel.specs.Channel.{Channel, width, rows}
-use Rattle.channel.specs.Density.{density}
-use Rattle.channel.specs.Constraints.{chain}
-use Rattle.channel.specs.Answers.{Escapes, rows_refusal, bounds_answer}
+use Rattle.channel.specs.Answers.{Escapes, rows_refusal, bounds_of, bounds_answer}
 use Rattle.channel.proofs.EscapeLaws.{accepted-exactly}
-use Rattle.pinlist.specs.declared.ReadAnswer.{ReadAnswer}
-use Rattle.pinlist.specs.declared.ReadAnswer.TheVariants as read
 use Rattle.pinlist.specs.Answers.{garbled_refusal, text_channel, text_refusal, read_answer, top_after, bot_after}
 use Rattle.pinlist.specs.Reader.{read_text}
 use Rattle.pinlist.specs.Code.{ReadDone}
@@ -29,7 +24,6 @@ use Rattle.judge.specs.declared.Fault.{Fault}
 use Rattle.judge.specs.declared.JudgeAnswer.TheVariants as judging
 use Rattle.judge.specs.Answers.{fault_number, fault_place, judge_told}
 use Rattle.judge.proofs.OnBytes.{fault-numbered}
-use Rattle.blanks.specs.declared.BlankAnswer.TheVariants as blank
 use Rattle.blanks.specs.Stock.{stock, smallest_for, no_blank, blank_answer}
 use Rattle.text.specs.Lines.{line, Put}
 use Rattle.text.specs.PutLaws.{put_same}
@@ -110,24 +104,18 @@ module _ (text : List ℕ) where
     pass-by a e = rw (le-ltb input_limit (length text) h, e)
 
     module _
-        {top bot top' bot' : List ℕ} {r : ReadAnswer} (long₁ : row_tray ≤ length top) (long₂ : row_tray ≤ length bot)
+        {top bot top' bot' : List ℕ} {r : Result ℕ Refusal} (long₁ : row_tray ≤ length top) (long₂ : row_tray ≤ length bot)
         (done : ReadDone text top bot r top' bot') where
-      told : r ≡ answered read.Refused (text_refusal text) (read.Width (width (text_channel text)))
+      told : r ≡ ok_unless (text_refusal text) (width (text_channel text))
       unfolding read_answer
       told = done.answer ∙ rw (long-rows text top bot long₁ long₂)
 
       -- a text that is refused
-      read-refused : (q : Refusal) → r ≡ read.Refused q → text_refusal text ≡ some q
-      unfolding answered
-      read-refused q e = go (text_refusal text) (sym told ∙ e)
-        where
-          go : (a : Option Refusal)
-              → answered read.Refused a (read.Width (width (text_channel text))) ≡ read.Refused q → a ≡ some q
-          go none k = absurd (let z : ◌≡◌ {A = ℕ} 0 1 = cc in omega arith)
-          go (some s) k = cc
+      read-refused : (q : Refusal) → r ≡ Err q → text_refusal text ≡ some q
+      read-refused q e = err→some _ (text_refusal text) (sym told ∙ e)
 
       pub text-refused : {q : Refusal} {out out' : List ℕ} {n : ℕ}
-          → r ≡ read.Refused q → Put out 0 (refusal_line q) out' n → n ≤ 64 → PinsRefused text out out' n
+          → r ≡ Err q → Put out 0 (refusal_line q) out' n → n ≤ 64 → PinsRefused text out out' n
       unfolding of_pin_list silent
       text-refused {q} e p few = record {
         fails = pass-by (some q) (read-refused q e);
@@ -137,16 +125,9 @@ module _ (text : List ℕ) where
         few = few;
       }
 
-      module _ {w : ℕ} (e : r ≡ read.Width w) where
+      module _ {w : ℕ} (e : r ≡ Ok w) where
         read-silent : (text_refusal text ≡ none) × (w ≡ width (text_channel text))
-        unfolding answered
-        read-silent = go (text_refusal text) (sym told ∙ e)
-          where
-            go : (a : Option Refusal)
-                → answered read.Refused a (read.Width (width (text_channel text))) ≡ read.Width w
-                → (a ≡ none) × (w ≡ width (text_channel text))
-            go none k = (refl, cc)
-            go (some s) k = absurd (let z : ◌≡◌ {A = ℕ} 0 1 = cc in omega arith)
+        read-silent = let s = ok→none _ (text_refusal text) (sym told ∙ e) in (s.0, sym s.1)
 
         escapes : Escapes (text_channel text)
         unfolding text_refusal
@@ -202,15 +183,15 @@ rows-output {text} {top} {bot} {out} {mid} {after} {w} {n} (read, same) output p
     put_same (rw same at put) (read.output output)
 
 -- rows that escape have bounds, and few tracks have a blank
-pub bounds-told : (ch : Channel) → Escapes ch → bounds_answer ch ≡ bounds.Bounds (density ch) (chain ch)
+pub bounds-told : (ch : Channel) → Escapes ch → bounds_answer ch ≡ Ok (bounds_of ch)
 unfolding bounds_answer
 bounds-told ch esc =
-    answered-none bounds.Refused (rows_refusal ch) (bounds.Bounds (density ch) (chain ch)) ((accepted-exactly ch).1 esc)
+    answered-none Err (rows_refusal ch) (Ok (bounds_of ch)) ((accepted-exactly ch).1 esc)
 
 pub has-blank : (t : ℕ) → t ≤ record_tray → no_blank t ≡ none
 unfolding no_blank refuse_if
 has-blank t h = rw (le-ltb (suc record_tray) t (omega arith))
 
-pub blank-told : (t : ℕ) → t ≤ record_tray → blank_answer t ≡ blank.Blank (smallest_for stock t)
+pub blank-told : (t : ℕ) → t ≤ record_tray → blank_answer t ≡ Ok (smallest_for stock t)
 unfolding blank_answer
-blank-told t h = answered-none blank.Refused (no_blank t) (blank.Blank (smallest_for stock t)) (has-blank t h)
+blank-told t h = answered-none Err (no_blank t) (Ok (smallest_for stock t)) (has-blank t h)

@@ -1,4 +1,4 @@
--- 01, "Judge, blanks, programs", and 02, Req 05 and Req 09: what each of the programs writes to standard output, of the
+-- SCOPE, "Judge, blanks, programs", and Req 05 and Req 09: what each of the programs writes to standard output, of the
 -- bytes that it reads.
 use Rattle.std.specs.Prelude.{ℕ, List, ◌++◌, cond, length, ltb, eqb}
 use Rattle.lists.specs.Lists.{each}
@@ -63,7 +63,7 @@ listing ch =
 abbrev pub board_bytes : Channel → List ℕ
 board_bytes ch = encode (width ch) (layout_drawn ch (fill ch))
 
--- 02, Req 05: the pairs of the ring with the fewest nets, a line each; or that there is none
+-- SCOPE, Req 05: the pairs of the ring with the fewest nets, a line each; or that there is none
 unfoldable pub fewest_lines : Channel → List ℕ
 fewest_lines ch = cond (eqb (fewest ch) 0) none_line (ring_lines (fewest_ring ch))
 
@@ -71,7 +71,7 @@ fewest_lines ch = cond (eqb (fewest ch) 0) none_line (ring_lines (fewest_ring ch
 unfoldable pub pin_list : Channel → List ℕ
 pin_list ch = line "TOP" ch.top ++ line "BOT" ch.bot
 
--- 02, Req 09: the joined list of two lists that each pass alone, or the line of its refusal
+-- SCOPE, Req 09: the joined list of two lists that each pass alone, or the line of its refusal
 unfoldable pub panel_lines : Channel → Channel → List ℕ
 panel_lines ch dh = answered refusal_line (panel_refusal ch dh) (pin_list (joined ch dh))
 

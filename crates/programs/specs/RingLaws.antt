@@ -4,7 +4,7 @@ use Prim.Native.Nat.{ℕ, zero, suc, ◌*◌, ◌≤◌}
 use native.Mathlib.Omega.{arith}
 use Rattle.std.proofs.Math.Path.{◌≡◌, refl, sym, ap, subst}
 use Rattle.std.proofs.Common.{◌∙◌, ne_eqb}
-use Rattle.std.specs.Prelude.{List, take}
+use Rattle.std.specs.Prelude.{List, take, Option, Some, None, Result, Ok, Err}
 use Rattle.std.proofs.Math.ListN.{length}
 use Rattle.lists.specs.Overlays.{front_of}
 use Rattle.refusal.specs.declared.Refusal.{Refusal}
@@ -14,8 +14,6 @@ use Rattle.channel.specs.Answers.{Escapes}
 use Rattle.channel.specs.CountLaws.{nets-few}
 use Rattle.leftedge.specs.Walk.{ring_numbers}
 use Rattle.leftedge.specs.RingLists.{length-numbers}
-use Rattle.rings.specs.declared.RingAnswer.{RingAnswer}
-use Rattle.rings.specs.declared.RingAnswer.TheVariants.{Pairs, NoRing, Refused}
 use Rattle.rings.specs.Fewest.{fewest, fewest_ring}
 use Rattle.rings.specs.Answers.{pairs_answer}
 use Rattle.rings.specs.Code.{FewestDone}
@@ -26,6 +24,10 @@ use Rattle.report.specs.Code.{ring_text}
 use Rattle.report.specs.CodeLaws.{ring-text}
 use Rattle.programs.specs.Programs.{fewest_lines}
 
+-- two answers of the ring with the fewest nets are the same
+abbrev Same : Result (Option ℕ) Refusal → Result (Option ℕ) Refusal → Type 0
+Same a b = a ≡ b
+
 -- the lines of a channel that has a ring, and of one that has none
 some-lines : (ch : Channel) (j : ℕ) → fewest ch ≡ suc j → ring_lines (fewest_ring ch) ≡ fewest_lines ch
 unfolding fewest_lines
@@ -35,9 +37,9 @@ none-lines : (ch : Channel) → fewest ch ≡ 0 → none_line ≡ fewest_lines c
 unfolding fewest_lines
 none-lines ch e = sym (rw e)
 
-module _ (ch : Channel) (esc : Escapes ch) {ring ring' : List ℕ} {r : RingAnswer} (room : ring_tray ≤ length ring)
+module _ (ch : Channel) (esc : Escapes ch) {ring ring' : List ℕ} {r : Result (Option ℕ) Refusal} (room : ring_tray ≤ length ring)
     (done : FewestDone ch ring r ring') where
-  by-fewest : r ≡ pairs_answer (fewest ch)
+  by-fewest : r ≡ Ok (pairs_answer (fewest ch))
   by-fewest = done.answer ∙ pairs-answered (length ring) ch room esc
 
   -- the front of the ring buffer
@@ -46,16 +48,16 @@ module _ (ch : Channel) (esc : Escapes ch) {ring ring' : List ℕ} {r : RingAnsw
       front_of (ring_numbers (fewest_ring ch)) ring (sym (length-numbers (fewest_ring ch)))
       (filled ch ring room esc (record { answer = done.answer; held = done.held }))
 
-  pub ring-found : {k : ℕ} → r ≡ Pairs k → (k ≤ record_tray) × (ring_text ring' k ≡ fewest_lines ch)
+  pub ring-found : {k : ℕ} → r ≡ Ok (Some k) → (k ≤ record_tray) × (ring_text ring' k ≡ fewest_lines ch)
   unfolding pairs_answer
   ring-found {k} e = go (fewest ch) refl
     where
       go : (m : ℕ) → fewest ch ≡ m → (k ≤ record_tray) × (ring_text ring' k ≡ fewest_lines ch)
       go zero q =
-          let other : NoRing ≡ Pairs k = sym (by-fewest ∙ ap pairs_answer q) ∙ e in
-          absurd (let z : ◌≡◌ {A = ℕ} 0 1 = cc in omega arith)
+          let other : Same (Ok None) (Ok (Some k)) = sym (by-fewest ∙ ap (λ (m : ℕ). Ok (pairs_answer m)) q) ∙ e in
+          cc
       go (suc j) q =
-          let told : Pairs (suc j) ≡ Pairs k = sym (by-fewest ∙ ap pairs_answer q) ∙ e in
+          let told : Same (Ok (Some (suc j))) (Ok (Some k)) = sym (by-fewest ∙ ap (λ (m : ℕ). Ok (pairs_answer m)) q) ∙ e in
           let same : suc j ≡ k = cc in
           let long = fewest-length ch in
           let pairs : length (fewest_ring ch) ≡ k = omega arith in (
@@ -64,25 +66,25 @@ module _ (ch : Channel) (esc : Escapes ch) {ring ring' : List ℕ} {r : RingAnsw
                 ∙ some-lines ch j q,
           )
 
-  pub ring-none : r ≡ NoRing → none_line ≡ fewest_lines ch
+  pub ring-none : r ≡ Ok None → none_line ≡ fewest_lines ch
   unfolding pairs_answer
   ring-none e = go (fewest ch) refl
     where
       go : (m : ℕ) → fewest ch ≡ m → none_line ≡ fewest_lines ch
       go zero q = none-lines ch q
       go (suc j) q =
-          let other : Pairs (suc j) ≡ NoRing = sym (by-fewest ∙ ap pairs_answer q) ∙ e in
-          absurd (let z : ◌≡◌ {A = ℕ} 0 1 = cc in omega arith)
+          let other : Same (Ok (Some (suc j))) (Ok None) = sym (by-fewest ∙ ap (λ (m : ℕ). Ok (pairs_answer m)) q) ∙ e in
+          cc
 
   -- an accepted channel is not refused
-  pub ring-unrefused : {q : Refusal} → r ≡ Refused q → ⊥
+  pub ring-unrefused : {q : Refusal} → r ≡ Err q → ⊥
   unfolding pairs_answer
   ring-unrefused {q} e = go (fewest ch) refl
     where
       go : (m : ℕ) → fewest ch ≡ m → ⊥
       go zero p =
-          let other : NoRing ≡ Refused q = sym (by-fewest ∙ ap pairs_answer p) ∙ e in
-          absurd (let z : ◌≡◌ {A = ℕ} 0 1 = cc in omega arith)
+          let other : Same (Ok None) (Err q) = sym (by-fewest ∙ ap (λ (m : ℕ). Ok (pairs_answer m)) p) ∙ e in
+          cc
       go (suc j) p =
-          let other : Pairs (suc j) ≡ Refused q = sym (by-fewest ∙ ap pairs_answer p) ∙ e in
-          absurd (let z : ◌≡◌ {A = ℕ} 0 1 = cc in omega arith)
+          let other : Same (Ok (Some (suc j))) (Err q) = sym (by-fewest ∙ ap (λ (m : ℕ). Ok (pairs_answer m)) p) ∙ e in
+          cc

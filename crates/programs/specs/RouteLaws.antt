@@ -1,4 +1,7 @@
 -- From what the router answers of an accepted channel to what the programs write: refused as tangled, or routed.
+use Rattle.std.specs.Prelude.{Ok, Err}
+use Rattle.router.specs.declared.Drawn.{Drawn}
+use Rattle.router.specs.Route.{drawn_board}
 use Rattle.std.specs.Prelude.{ℕ, ◌+◌, ◌*◌, ◌≤◌, ◌≡◌, refl, List, ◌++◌, take, drop}
 use native.Mathlib.Omega.{arith}
 use Rattle.std.proofs.Math.Path.{sym, ap, subst}
@@ -28,7 +31,6 @@ use Rattle.drawing.specs.Draw.{draw}
 use Rattle.blanks.specs.Stock.{no_blank}
 use Rattle.promises.specs.Proved.{trays-fit}
 use Rattle.router.specs.declared.Routing.{Routing}
-use Rattle.router.specs.declared.RouteAnswer.TheVariants as route
 use Rattle.router.specs.Route.{ring_shown, tangled, layout_drawn, records_made, route_trays, route_refusal, board_after}
 use Rattle.router.proofs.ContractLaws.{only-tangled, stuck-answer, filled-answer, stuck-ring, filled-board}
 use Rattle.router.specs.Code.{records_unless, RowsDone}
@@ -98,7 +100,7 @@ module _
   abbrev ring_from : List ℕ → List Step
   ring_from left = ring_of (net_items ch) left
 
-  module _ {q : Refusal} (told : r.answer ≡ route.Refused q) where
+  module _ {q : Refusal} (told : r.answer ≡ Err q) where
     -- the router refuses a tangled channel alone
     record Stuck : Type 0 where
       left : List ℕ
@@ -136,7 +138,7 @@ module _
           kept = done.board_held ∙ rw (only-tangled trays ch enough esc, s.unfilled, tangled, filled_unless);
         }
 
-  module _ {t n : ℕ} (told : r.answer ≡ route.Routed t n) where
+  module _ {t n : ℕ} (told : r.answer ≡ Ok (drawn_board t n)) where
     record Full : Type 0 where
       places : List Place
       fills : fill ch ≡ filled t places
@@ -148,8 +150,9 @@ module _
         go : (f : Filling) → fill ch ≡ f → Full
         go (filled u ps) e =
             let same = sym (done.answer ∙ filled-answer trays ch enough esc u ps e) ∙ told in
-            let tracks : u ≡ t = cc in
-            let count : n ≡ length (draw ch u ps).pieces = cc in
+            let board : drawn_board u (length (draw ch u ps).pieces) ≡ drawn_board t n = cc in
+            let tracks = ap (λ (d : Drawn). d.tracks) board in
+            let count = sym (ap (λ (d : Drawn). d.pieces) board) in
             record {
               places = ps;
               fills = e ∙ ap (λ (k : ℕ). filled k ps) tracks;

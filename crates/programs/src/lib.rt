@@ -15,15 +15,11 @@ ghost use Rattle.programs.specs.Programs.{fewest_lines, listing_output, board_ou
 ghost use Rattle.programs.specs.Programs.{of_pin_list, pin_list, panel_lines, panel_output};
 ghost use Rattle.programs.specs.Code.{unrouted_text, figures_of, pins_pass, PinsDone};
 
-use blanks::BlankAnswer;
-use channel::BoundsAnswer;
+use channel::LowerBounds;
 use judge::JudgeAnswer;
-use panel::JoinAnswer;
-use pinlist::ReadAnswer;
 use refusal::{BOARD_TRAY, RING_TRAY, ROW_TRAY, Refusal, SCRATCH_TRAY};
 use report::Figures;
-use rings::RingAnswer;
-use router::{RouteAnswer, Routing};
+use router::{Drawn, Routing};
 
 // The most bytes of an input that is handed to the library.
 const INPUT_LIMIT: usize = 65536;
@@ -71,8 +67,8 @@ fn read_pins(
         return PinsRead::Refused(put_over(out));
     }
     match pinlist::read(text, top, bot) {
-        ReadAnswer::Refused(refusal) => PinsRead::Refused(put_refusal(out, refusal)),
-        ReadAnswer::Width(w) => PinsRead::Width(w),
+        Err(refusal) => PinsRead::Refused(put_refusal(out, refusal)),
+        Ok(w) => PinsRead::Width(w),
     }
 }
 
@@ -120,10 +116,10 @@ fn put_routed(
     ensures upper_bound { result ≤ 65536 }
 {
     match channel::bounds(top, bot) {
-        BoundsAnswer::Refused(refusal) => put_refusal(out, refusal),
-        BoundsAnswer::Bounds { density, chain } => match blanks::blank(tracks) {
-            BlankAnswer::Refused(refusal) => put_refusal(out, refusal),
-            BlankAnswer::Blank(blank) => {
+        Err(refusal) => put_refusal(out, refusal),
+        Ok(LowerBounds { density, chain }) => match blanks::blank(tracks) {
+            Err(refusal) => put_refusal(out, refusal),
+            Ok(blank) => {
                 let figures = Figures {
                     width: top.len() as u32,
                     tracks,
@@ -151,10 +147,8 @@ fn list_channel(top: &[u32], bot: &[u32], out: &mut [u8]) -> usize
     let routing = router::route_rows(top, bot, &mut ring, &mut board);
     let answer = routing.answer;
     match answer {
-        RouteAnswer::Refused(refusal) => put_unrouted(out, refusal, &ring),
-        RouteAnswer::Routed { tracks, pieces } => put_routed(
-            out, top, bot, routing, tracks, pieces,
-        ),
+        Err(refusal) => put_unrouted(out, refusal, &ring),
+        Ok(Drawn { tracks, pieces }) => put_routed(out, top, bot, routing, tracks, pieces),
     }
 }
 
@@ -183,8 +177,8 @@ fn board_channel(top: &[u32], bot: &[u32], out: &mut [u8]) -> usize
     let routing = router::route_rows(top, bot, &mut ring, out);
     let answer = routing.answer;
     match answer {
-        RouteAnswer::Refused(refusal) => put_unrouted(out, refusal, &ring),
-        RouteAnswer::Routed { tracks: _, pieces } => 4 + 4 * pieces as usize,
+        Err(refusal) => put_unrouted(out, refusal, &ring),
+        Ok(drawn) => 4 + 4 * drawn.pieces as usize,
     }
 }
 
@@ -210,9 +204,9 @@ fn ring_channel(top: &[u32], bot: &[u32], out: &mut [u8]) -> usize
 {
     let mut ring = [0u32; RING_TRAY];
     match rings::fewest_ring(top, bot, &mut ring) {
-        RingAnswer::Pairs(pairs) => report::put_ring(out, 0, &ring, pairs as usize),
-        RingAnswer::NoRing => report::put_none(out),
-        RingAnswer::Refused(refusal) => put_refusal(out, refusal),
+        Ok(Some(pairs)) => report::put_ring(out, 0, &ring, pairs as usize),
+        Ok(None) => report::put_none(out),
+        Err(refusal) => put_refusal(out, refusal),
     }
 }
 
@@ -300,8 +294,8 @@ fn join_channels(top1: &[u32], bot1: &[u32], top2: &[u32], bot2: &[u32], out: &m
     let mut top = [0u32; ROW_TRAY];
     let mut bot = [0u32; ROW_TRAY];
     match panel::join(top1, bot1, top2, bot2, &mut top, &mut bot) {
-        JoinAnswer::Refused(refusal) => put_refusal(out, refusal),
-        JoinAnswer::Width(w) => put_pin_list(out, &top[..w], &bot[..w]),
+        Err(refusal) => put_refusal(out, refusal),
+        Ok(w) => put_pin_list(out, &top[..w], &bot[..w]),
     }
 }
 

@@ -1,4 +1,4 @@
--- Req 02 of 02, proved: the floor for layouts with one trunk piece per net, and the copper turned over.
+-- Req 02, proved: the floor for layouts with one trunk piece per net, and the copper turned over.
 use Rattle.std.specs.Prelude.{ℕ}
 use Rattle.std.proofs.Common.{arith}
 use Rattle.lists.specs.Firsts.{lowest-same}

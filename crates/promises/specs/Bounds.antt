@@ -19,7 +19,7 @@ OneTrunkFloor ch k = (l : Layout) → Good ch l → OneTrunkEach ch l → k ≤ 
 abbrev pub larger_bound : Channel → ℕ
 larger_bound ch = max (density ch) (chain ch)
 
--- 02, Req 02, of a channel that escapes refusals 3 to 5
+-- SCOPE, Req 02, of a channel that escapes refusals 3 to 5
 pub record FloorPromise (ch : Channel) : Type 0 where
   -- "every good layout with at most one trunk piece per net has at least chain tracks"
   pub chain-floor : OneTrunkFloor ch (chain ch)

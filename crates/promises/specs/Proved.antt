@@ -1,4 +1,4 @@
--- Demand 3 and Req 04 of 02, proved for every channel that escapes refusals 3 to 5. A filled channel's drawing is a
+-- Demand 3 and Req 04, proved for every channel that escapes refusals 3 to 5. A filled channel's drawing is a
 -- good layout with one trunk piece per net; no such layout exists beside a ring; and the fill is filled or stuck.
 use Rattle.std.specs.Prelude.{ℕ, ◌≤◌, ◌≡◌, refl, List, [], ◌∷◌, length, T}
 use Rattle.std.proofs.Common.{arith, sym, subst, ⊎_elim}

@@ -1,4 +1,4 @@
--- Demand 3, Req 04 of 02, and demand 2's reading back, as statements: what is promised of the fill, its refusal as
+-- Demand 3, Req 04, and demand 2's reading back, as statements: what is promised of the fill, its refusal as
 -- tangled and the drawing, over every layout with any number of tracks and pieces.
 use Rattle.std.specs.Prelude.{ℕ, ◌≤◌, ◌≡◌, ◌↔◌, length, T}
 use mathlib.Core.List.{List, Memᴰ}
@@ -33,13 +33,13 @@ NoLayout ch = (l : Layout) → Good ch l → OneTrunkEach ch l → ⊥
 abbrev pub Fewest : Channel → ℕ → Type 0
 Fewest ch t = (l : Layout) → Good ch l → t ≤ l.tracks
 
--- 02, Req 04: no piece of the layout is joined to a parked pin
+-- SCOPE, Req 04: no piece of the layout is joined to a parked pin
 abbrev pub Bare : Channel → Layout → Type 0
 Bare ch l =
     (x : Pin) → T (is_parked ch (net_of ch x))
     → (p : Piece) → Memᴰ p l.pieces → Joined ch l (copper p) (pin x) → ⊥
 
--- 02, Req 04: of no net record is the number parked
+-- SCOPE, Req 04: of no net record is the number parked
 abbrev pub NoneParked : Channel → List NetRecord → Type 0
 NoneParked ch made = (e : NetRecord) → Memᴰ e made → T (is_parked ch e.number.0) → ⊥
 

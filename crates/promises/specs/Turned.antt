@@ -1,4 +1,4 @@
--- Req 02 of 02, as a statement: the list turned over, the floor, and the same copper turned over. It speaks of layouts
+-- Req 02, as a statement: the list turned over, the floor, and the same copper turned over. It speaks of layouts
 -- on two layers.
 use Rattle.std.specs.Prelude.{ℕ, ◌≡◌, ◌↔◌}
 use Rattle.lists.specs.Lists.{Lowest}

@@ -1,13 +1,14 @@
 -- A chain of refusals is silent exactly if each of its parts is, and what it says is what the first part that speaks
 -- says.
-use Rattle.std.specs.Prelude.{ℕ, ◌≡◌, refl, Bool, true, false, List, [], ◌∷◌, ◌⊎◌, T}
-use Rattle.std.proofs.Common.{inl, inr}
+use Rattle.std.specs.Prelude.{ℕ, ◌≡◌, refl, Bool, true, false, List, [], ◌∷◌, ◌⊎◌, T, Some, None, find, slice_get, Result, Ok, Err, IsErrAnd}
+use Rattle.std.proofs.Common.{inl, inr, sym, ◌∙◌, ap}
 use Rattle.std.proofs.Math.Option.{Option, none, some, none-ne-some, some-ne-none, some-injective}
 use Rattle.std.proofs.Math.ListN.{get_elem?}
 use Rattle.lists.specs.Lists.{keep, up_to, head_or}
+use Rattle.lists.specs.Finds.{find-keep, not-found}
 use Rattle.lists.specs.Tallies.{first_of, first-none, none_first}
 use Rattle.refusal.specs.declared.Refusal.{Refusal}
-use Rattle.refusal.specs.Refusals.{refuse_if, refuse_at_first, ◌or_else◌, answered}
+use Rattle.refusal.specs.Refusals.{refuse_if, refuse_at_first, ◌or_else◌, answered, ok_unless}
 
 -- silent
 pub or_else_none : (a b : Option Refusal) → (a or_else b) ≡ none → (a ≡ none) × (b ≡ none)
@@ -88,6 +89,20 @@ refuse-first r f n = go (keep f (up_to n))
     go [] h = absurd (h refl)
     go (p ∷ ps) h = refl
 
+-- the same of the first that passes as an `Option`
+pub refuse-found : (r : ℕ → Refusal) (f : ℕ → Bool) (ps : List ℕ) {p : ℕ} → find f ps ≡ Some p
+    → refuse_at_first r (keep f ps) ≡ some (r p)
+unfolding refuse_at_first
+refuse-found r f ps {p} e = go (keep f ps) (sym (find-keep f ps) ∙ e)
+  where
+    go : (qs : List ℕ) → slice_get qs 0 ≡ Some p → refuse_at_first r qs ≡ some (r p)
+    go [] h = cc
+    go (q ∷ qs) h = let same : q ≡ p = cc in ap (λ (k : ℕ). some (r k)) same
+
+pub refuse-not-found : (r : ℕ → Refusal) (f : ℕ → Bool) (ps : List ℕ) → find f ps ≡ None
+    → refuse_at_first r (keep f ps) ≡ none
+refuse-not-found r f ps e = none-refuse-at-first r (keep f ps) (not-found f ps e)
+
 -- the answer
 pub answered-none : {A : Type 0} (refused : Refusal → A) (a : Option Refusal) (success : A) → a ≡ none
     → answered refused a success ≡ success
@@ -98,3 +113,20 @@ pub answered-some : {A : Type 0} (refused : Refusal → A) (a : Option Refusal) 
     → answered refused a success ≡ refused r
 unfolding answered
 answered-some refused a success r h = rw h
+
+-- and what the answer tells of its refusal
+module _ {A : Type 0} (value : A) where
+  pub ok→none : (q : Option Refusal) {v : A} → ok_unless q value ≡ Ok v → (q ≡ none) × (value ≡ v)
+  unfolding answered
+  ok→none none e = (refl, cc)
+  ok→none (some r) e = cc
+
+  pub err→some : (q : Option Refusal) {r : Refusal} → ok_unless q value ≡ Err r → q ≡ some r
+  unfolding answered
+  err→some none e = cc
+  err→some (some s) e = cc
+
+-- what `?` hands on is the error that it was given, or what that is turned into
+pub handed-on : {A E : Type 0} (a : Result A E) {r : E} → IsErrAnd a (λ q. q ≡ r) → a ≡ Err r
+handed-on (Ok v) h = absurd h
+handed-on (Err q) h = ap Err h

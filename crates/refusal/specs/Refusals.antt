@@ -1,6 +1,6 @@
--- 01, "The shop's refusal words": the number and the place of each, and how a chain of them is put together in rising
--- number.
-use Rattle.std.specs.Prelude.{ℕ, Bool, cond, List, [], ◌∷◌}
+-- SCOPE, "The shop's refusal words": the number and the place of each, and how a chain of them is put together in
+-- rising number.
+use Rattle.std.specs.Prelude.{ℕ, Bool, cond, List, [], ◌∷◌, Result, Ok, Err}
 use Rattle.std.proofs.Math.Option.{Option, none, some}
 use Rattle.lists.specs.Lists.{overlay}
 use Rattle.refusal.specs.declared.Refusal.{Refusal}
@@ -23,8 +23,8 @@ use Rattle.refusal.specs.declared.Refusal.TheVariants.{
   NotHere,
 }
 
--- the column "No"; 02, Req 04: "Refusal 6 is no longer given"; Req 03: "15, bad table", "16, no stock"; Req 09: "18,
--- panel full"; Req 14: "21, bad span", "22, already here", "23, not here"
+-- the column "number"; SCOPE, Req 04: "Refusal 6 is no longer given"; Req 03: "15, bad table", "16, no stock"; Req 09:
+-- "18, panel full"; Req 14: "21, bad span", "22, already here", "23, not here"
 abbrev pub number_of : Refusal → ℕ
 number_of (ShortTray p) = 1
 number_of (Garbled p) = 2
@@ -62,7 +62,7 @@ place_of (BadSpan p) = p
 place_of (AlreadyHere p) = p
 place_of (NotHere p) = p
 
--- an answer in 01's numbers: the refusal's or fault's number and its place, or 0 and the values answered
+-- an answer in the scope's numbers: the refusal's or fault's number and its place, or 0 and the values answered
 pub record Told : Type 0 where
   pub number : ℕ
   pub values : List ℕ
@@ -76,7 +76,7 @@ told_refusal r = told_at (number_of r) (place_of r)
 abbrev pub told_values : List ℕ → Told
 told_values vs = record { number = 0; values = vs }
 
--- an operation's answer in 01's numbers: its refusal's, or 0 and the values
+-- an operation's answer in the scope's numbers: its refusal's, or 0 and the values
 unfoldable pub told_by : Option Refusal → List ℕ → Told
 told_by none vs = told_values vs
 told_by (some r) vs = told_refusal r
@@ -100,6 +100,15 @@ infixr 30 ◌or_else◌
 unfoldable pub answered : {A : Type 0} → (Refusal → A) → Option Refusal → A → A
 answered refused none success = success
 answered refused (some r) success = refused r
+
+-- the answer of an operation that has a value: that value, unless it is refused
+abbrev pub ok_unless : {A : Type 0} → Option Refusal → A → Result A Refusal
+ok_unless refused value = answered Err refused (Ok value)
+
+-- such an answer in the scope's numbers, by the values that it shows
+unfoldable pub told : {A : Type 0} → (A → List ℕ) → Result A Refusal → Told
+told shows (Ok value) = told_values (shows value)
+told shows (Err r) = told_refusal r
 
 -- "Success fills the front of each output buffer; the remainder is untouched"; under a refusal "lent memory stays"
 unfoldable pub filled_unless : {A : Type 0} → Option Refusal → List A → List A → List A

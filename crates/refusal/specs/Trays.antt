@@ -1,4 +1,4 @@
--- 01, refusal 1: the lengths that lent buffers must have, in the order in which they are asked.
+-- SCOPE, refusal 1: the lengths that lent buffers must have, in the order in which they are asked.
 use Rattle.std.specs.Prelude.{ℕ, List, map, ltb}
 use Rattle.std.proofs.Math.Option.{Option}
 use Rattle.lists.specs.Lists.{keep}
@@ -21,7 +21,7 @@ board_tray = 10240
 abbrev pub scratch_tray : ℕ
 scratch_tray = 5119
 
--- 02, Req 14: "Where lent, it is 4,096 words of 64 bits, under refusal 1 in every call"
+-- SCOPE, Req 14: "Where lent, it is 4,096 words of 64 bits, under refusal 1 in every call"
 abbrev pub draft_tray : ℕ
 draft_tray = 4096
 

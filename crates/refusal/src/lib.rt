@@ -19,7 +19,7 @@ pub const DRAFT_TRAY: usize = 4096;
 
 // The refusals that an operation may answer, by the shop's words, each with its place. Numbers 6, 17, 19 and 20 are not
 // in use. The judge's faults, numbers 11 to 13, are an enum of their own beside the judge.
-#[derive(Clone, Copy)]
+#[derive(Clone, Copy, Debug, PartialEq, Eq)]
 pub enum Refusal {
     // 1: a lent buffer is too short; the length needed
     ShortTray(usize),
@@ -85,21 +85,21 @@ pub fn place_of(refusal: Refusal) -> usize
     ensures { result ≡ place_of refusal }
 {
     match refusal {
-        Refusal::ShortTray(place) => place,
-        Refusal::Garbled(place) => place,
-        Refusal::TooWide(place) => place,
-        Refusal::Uneven(place) => place,
-        Refusal::HighNet(place) => place,
-        Refusal::Tangled(place) => place,
-        Refusal::Torn(place) => place,
-        Refusal::BadField(place) => place,
-        Refusal::WrongBoard(place) => place,
-        Refusal::NoBlank(place) => place,
-        Refusal::BadTable(place) => place,
-        Refusal::NoStock(place) => place,
-        Refusal::PanelFull(place) => place,
-        Refusal::BadSpan(place) => place,
-        Refusal::AlreadyHere(place) => place,
-        Refusal::NotHere(place) => place,
+        Refusal::ShortTray(place)
+        | Refusal::Garbled(place)
+        | Refusal::TooWide(place)
+        | Refusal::Uneven(place)
+        | Refusal::HighNet(place)
+        | Refusal::Tangled(place)
+        | Refusal::Torn(place)
+        | Refusal::BadField(place)
+        | Refusal::WrongBoard(place)
+        | Refusal::NoBlank(place)
+        | Refusal::BadTable(place)
+        | Refusal::NoStock(place)
+        | Refusal::PanelFull(place)
+        | Refusal::BadSpan(place)
+        | Refusal::AlreadyHere(place)
+        | Refusal::NotHere(place) => place,
     }
 }

@@ -1,4 +1,4 @@
--- 01, "Judge, blanks, programs": the lines that programs print.
+-- SCOPE, "Judge, blanks, programs": the lines that programs print.
 use Rattle.std.specs.Prelude.{ℕ, List, [], ◌∷◌, cond, eqb}
 use Prim.Native.String.{String}
 use Rattle.lists.specs.Lists.{each}
@@ -23,7 +23,7 @@ refusal_line r = refused_line (told_refusal r)
 unfoldable pub ring_lines : List Step → List ℕ
 ring_lines steps = each (λ s. line "RING" (s.net ∷ s.column ∷ [])) steps
 
--- of a channel that has no ring (02, Req 05)
+-- of a channel that has no ring (SCOPE, Req 05)
 unfoldable pub none_line : List ℕ
 none_line = line "NONE" []
 

@@ -1,5 +1,5 @@
 // The lines that the programs write, put into a lent buffer.
-#![tactic(auto)]
+#![tactic(auto, unfolding(lists::specs::Bytes::bytes, crate::specs::Lines::refused_line, crate::specs::Lines::none_line, crate::specs::Lines::board_line, crate::specs::Lines::bound_line, crate::specs::Lines::net_line, crate::specs::Lines::end_line))]
 
 ghost use Rattle.std.specs.Prelude.{◌≡◌, [], ◌∷◌, ◌+◌, ◌*◌, ◌≤◌, length, take};
 ghost use Rattle.lists.specs.Lists.{each};
@@ -50,10 +50,8 @@ pub fn put_ring(out: &mut [u8], at: usize, ring: &[u32], pairs: usize) -> usize
     ensures upper_bound { result ≤ at + 64 * pairs }
 {
     let mut next = at;
-    let mut i: usize = 0;
-    while i < pairs {
+    for i in 0..pairs {
         next = put_pair(out, next, ring[2 * i], ring[2 * i + 1]);
-        i += 1;
     }
     next
 }
@@ -73,10 +71,8 @@ fn widen(row: &[u32], to: &mut [u64])
     requires { length row.now ≤ length to.old }
     ensures { take (length row.now) to.new ≡ row.now }
 {
-    let mut i: usize = 0;
-    while i < row.len() {
-        to[i] = row[i] as u64;
-        i += 1;
+    for (i, &n) in row.iter().enumerate() {
+        to[i] = n as u64;
     }
 }
 
@@ -146,11 +142,8 @@ fn put_nets(out: &mut [u8], at: usize, records: [NetRecord; RECORD_TRAY], count:
     ensures upper_bound { result ≤ at + 100 * count }
 {
     let mut next = at;
-    let mut i: usize = 0;
-    while i < count {
-        let record = records[i];
-        next = put_net(out, next, record);
-        i += 1;
+    for i in 0..count {
+        next = put_net(out, next, records[i]);
     }
     next
 }

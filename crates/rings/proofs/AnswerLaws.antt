@@ -1,5 +1,5 @@
 -- What `fewest_ring` answers, and what the ring buffer then holds, in each of its cases.
-use Rattle.std.specs.Prelude.{ℕ, zero, suc, ◌*◌, ◌≤◌, ◌<◌, ◌≡◌, refl, List, [], ◌∷◌, ◌↔◌, length, drop, ltb}
+use Rattle.std.specs.Prelude.{ℕ, zero, suc, ◌*◌, ◌≤◌, ◌<◌, ◌≡◌, refl, List, [], ◌∷◌, ◌↔◌, length, drop, ltb, Option, Some, None, unwrap_or, Result, Ok, Err}
 use Rattle.std.proofs.Math.Decide.{dec_le}
 use Rattle.std.proofs.Common.{arith, ◌∙◌, lt→ltb}
 use Rattle.std.proofs.Math.Path.{sym, ap, subst⁻¹}
@@ -11,21 +11,17 @@ use Rattle.lists.specs.Tests.{T→true}
 use Rattle.lists.specs.Overlays.{front_of}
 use Rattle.refusal.specs.declared.Refusal.{Refusal}
 use Rattle.refusal.specs.declared.Refusal.TheVariants.{ShortTray}
-use Rattle.refusal.specs.Refusals.{told_values, told_by, refuse_at_first, ◌or_else◌, filled_unless}
-use Rattle.refusal.specs.ChainLaws.{some-or-else, none-or-else-later, answered-none, answered-some}
-use Rattle.refusal.specs.ToldLaws.{answered-told}
+use Rattle.refusal.specs.Refusals.{told_by, refuse_at_first, ◌or_else◌, filled_unless}
+use Rattle.refusal.specs.ChainLaws.{some-or-else, none-or-else-later, answered-none, answered-some, ok→none, err→some}
+use Rattle.refusal.specs.ToldLaws.{told-ok_unless}
 use Rattle.refusal.specs.Trays.{Tray, ring_tray, short_tray}
 use Rattle.refusal.specs.TrayLaws.{trays-fit}
-use Rattle.channel.specs.declared.RowsAnswer.TheVariants as checking
 use Rattle.channel.specs.Channel.{Channel}
 use Rattle.channel.specs.Answers.{Escapes, rows_refusal, rows_answer}
 use Rattle.channel.specs.Constraints.{Tangled}
 use Rattle.channel.proofs.EscapeLaws.{accepted-exactly}
-use Rattle.channel.proofs.BoundLaws.{accepted→none, refused→some}
 use Rattle.leftedge.specs.Walk.{ring_numbers}
 use Rattle.leftedge.specs.RingLists.{length-numbers}
-use Rattle.rings.specs.declared.RingAnswer.{RingAnswer}
-use Rattle.rings.specs.declared.RingAnswer.TheVariants.{Pairs, NoRing, Refused}
 use Rattle.rings.specs.Fewest.{fewest, fewest_ring}
 use Rattle.rings.specs.Answers.{fewest_refusal, pairs_answer, fewest_answer, fewest_after, pairs_of, fewest_told}
 use Rattle.rings.specs.Promise.{ShowsFewest, FewestPromise}
@@ -34,22 +30,17 @@ use Rattle.rings.specs.TurnLaws.{ring-turnable}
 use Rattle.rings.proofs.FewestLaws.{fewest-length, fewest-none, fewest-ring}
 use Rattle.rings.proofs.OfNets.{none-ring}
 
-pub pairs-told : (k : ℕ) → fewest_told (pairs_answer k) ≡ told_values (k ∷ [])
-unfolding pairs_answer fewest_told
-pairs-told zero = refl
-pairs-told (suc k) = refl
+pub pairs-shown : (k : ℕ) → unwrap_or (pairs_answer k) 0 ≡ k
+unfolding pairs_answer
+pairs-shown zero = refl
+pairs-shown (suc k) = refl
 
-pairs-some : (k : ℕ) → (k ≡ 0 → ⊥) → pairs_answer k ≡ Pairs k
+pairs-some : (k : ℕ) → (k ≡ 0 → ⊥) → pairs_answer k ≡ Some k
 unfolding pairs_answer
 pairs-some zero h = absurd (h refl)
 pairs-some (suc k) h = refl
 
-pairs_of_lem : (k : ℕ) → pairs_of (pairs_answer k) ≡ k
-unfolding pairs_answer
-pairs_of_lem zero = refl
-pairs_of_lem (suc k) = refl
-
-no_pairs : (k : ℕ) → (pairs_answer k ≡ NoRing) ↔ (k ≡ 0)
+no_pairs : (k : ℕ) → (pairs_answer k ≡ None) ↔ (k ≡ 0)
 unfolding pairs_answer
 no_pairs zero = (λ e. refl, λ e. refl)
 no_pairs (suc k) = (
@@ -60,13 +51,13 @@ no_pairs (suc k) = (
 -- the answer is told by its refusal, or by the number of pairs, 0 for none
 pub fewest-told : (room : ℕ) (ch : Channel)
     → fewest_told (fewest_answer room ch) ≡ told_by (fewest_refusal room ch) (fewest ch ∷ [])
-unfolding fewest_answer fewest_told
+unfolding fewest_answer
 fewest-told room ch =
-    answered-told fewest_told Refused (pairs_answer (fewest ch)) (fewest ch ∷ []) (λ r. refl) (pairs-told (fewest ch))
-    (fewest_refusal room ch)
+    told-ok_unless _ (fewest_refusal room ch) (pairs_answer (fewest ch))
+    ∙ ap (λ (k : ℕ). told_by (fewest_refusal room ch) (k ∷ [])) (pairs-shown (fewest ch))
 
 -- what is answered and what the ring buffer then holds, by the definitions
-pub record Held (ch : Channel) (ring : List ℕ) (r : RingAnswer) (ring' : List ℕ) : Type 0 where
+pub record Held (ch : Channel) (ring : List ℕ) (r : Result (Option ℕ) Refusal) (ring' : List ℕ) : Type 0 where
   pub answer : r ≡ fewest_answer (length ring) ch
   pub held : ring' ≡ fewest_after ch ring
 
@@ -106,20 +97,20 @@ fewest-accepted room ch = (λ e. elim (dec_le ring_tray room) [ yes h ↦ rows h
 
 -- the pairs that are answered, where nothing is refused
 pub pairs-answered : (room : ℕ) (ch : Channel) → ring_tray ≤ room → Escapes ch
-    → fewest_answer room ch ≡ pairs_answer (fewest ch)
+    → fewest_answer room ch ≡ Ok (pairs_answer (fewest ch))
 unfolding fewest_answer
 pairs-answered room ch h esc =
-    answered-none Refused _ (pairs_answer (fewest ch)) ((fewest-accepted room ch).1 (h, esc))
+    answered-none Err _ (Ok (pairs_answer (fewest ch))) ((fewest-accepted room ch).1 (h, esc))
 
 module _ (ch : Channel) (ring : List ℕ) where
   -- under a refusal nothing is written
-  refused : (q : Refusal) → fewest_refusal (length ring) ch ≡ some q → Held ch ring (Refused q) ring
+  refused : (q : Refusal) → fewest_refusal (length ring) ch ≡ some q → Held ch ring (Err q) ring
   unfolding fewest_answer fewest_after filled_unless
   refused q e =
-      record { answer = sym (answered-some Refused _ (pairs_answer (fewest ch)) q e); held = sym (rw (e, filled_unless)) }
+      record { answer = sym (answered-some Err _ (Ok (pairs_answer (fewest ch))) q e); held = sym (rw (e, filled_unless)) }
 
   -- refusal 1: the ring buffer is short
-  pub short-held : length ring < ring_tray → Held ch ring (Refused (ShortTray ring_tray)) ring
+  pub short-held : length ring < ring_tray → Held ch ring (Err (ShortTray ring_tray)) ring
   unfolding fewest_refusal
   short-held h =
       refused (ShortTray ring_tray)
@@ -131,9 +122,9 @@ module _ (ch : Channel) (ring : List ℕ) where
     rows-alone = none-or-else-later (short_tray (tray_of (length ring))) (rows_refusal ch) (enough (length ring) room)
 
     -- refusals 3 to 5: the rows are refused
-    pub rows-held : (q : Refusal) → rows_answer ch ≡ checking.Refused q → Held ch ring (Refused q) ring
+    pub rows-held : (q : Refusal) → Err q ≡ rows_answer ch → Held ch ring (Err q) ring
     unfolding rows_answer
-    rows-held q e = refused q (rows-alone ∙ refused→some (rows_refusal ch) q e)
+    rows-held q e = refused q (rows-alone ∙ err→some tt (rows_refusal ch) (sym e))
 
     module _ (accepted : rows_refusal ch ≡ none) where
       after_filled : fewest_after ch ring ≡ overlay (ring_numbers (fewest_ring ch)) ring
@@ -141,42 +132,42 @@ module _ (ch : Channel) (ring : List ℕ) where
       after_filled = rw (rows-alone ∙ accepted, filled_unless)
 
     -- accepted rows: `fewest_of_checked` has answered and filled
-    module _ (e : rows_answer ch ≡ checking.Accepted) {k : ℕ} {ring' : List ℕ} (counted : k ≡ fewest ch)
+    module _ (e : Ok tt ≡ rows_answer ch) {k : ℕ} {ring' : List ℕ} (counted : k ≡ fewest ch)
         (filled : ring' ≡ overlay (ring_numbers (fewest_ring ch)) ring) where
-      by-pairs : Held ch ring (pairs_answer k) ring'
+      by-pairs : Held ch ring (Ok (pairs_answer k)) ring'
       unfolding rows_answer
       by-pairs =
-          let accepted = accepted→none (rows_refusal ch) e in
+          let accepted = (ok→none tt (rows_refusal ch) (sym e)).0 in
           record {
             answer =
-                ap pairs_answer counted ∙ sym (pairs-answered (length ring) ch room ((accepted-exactly ch).0 accepted));
+                ap (λ (k : ℕ). Ok (pairs_answer k)) counted ∙ sym (pairs-answered (length ring) ch room ((accepted-exactly ch).0 accepted));
             held = filled ∙ sym (after_filled accepted);
           }
 
       -- no pairs
-      pub none-held : k ≡ 0 → Held ch ring NoRing ring'
+      pub none-held : k ≡ 0 → Held ch ring (Ok None) ring'
       unfolding pairs_answer
       none-held z = rw z at by-pairs
 
       -- pairs
-      pub pairs-held : (k ≡ 0 → ⊥) → Held ch ring (Pairs k) ring'
+      pub pairs-held : (k ≡ 0 → ⊥) → Held ch ring (Ok (Some k)) ring'
       pairs-held h = rw (pairs-some k h) at by-pairs
 
     -- of a channel that escapes refusals 3 to 5
-    module _ (esc : Escapes ch) {r : RingAnswer} {ring' : List ℕ} (h : Held ch ring r ring') where
-      by-fewest : r ≡ pairs_answer (fewest ch)
+    module _ (esc : Escapes ch) {r : Result (Option ℕ) Refusal} {ring' : List ℕ} (h : Held ch ring r ring') where
+      by-fewest : r ≡ Ok (pairs_answer (fewest ch))
       by-fewest = h.answer ∙ pairs-answered (length ring) ch room esc
 
       pub filled : ring' ≡ overlay (ring_numbers (fewest_ring ch)) ring
       filled = h.held ∙ after_filled ((accepted-exactly ch).1 esc)
 
       pub counted : pairs_of r ≡ fewest ch
-      counted = ap pairs_of by-fewest ∙ pairs_of_lem (fewest ch)
+      counted = ap pairs_of by-fewest ∙ pairs-shown (fewest ch)
 
-      none_told : (r ≡ NoRing) ↔ (Tangled ch → ⊥)
+      none_told : (r ≡ Ok None) ↔ (Tangled ch → ⊥)
       none_told = (
-        λ e. (fewest-none ch esc).0 ((no_pairs (fewest ch)).0 (sym by-fewest ∙ e)),
-        λ u. by-fewest ∙ (no_pairs (fewest ch)).1 ((fewest-none ch esc).1 u),
+        λ e. (fewest-none ch esc).0 ((no_pairs (fewest ch)).0 (let same = sym by-fewest ∙ e in cc)),
+        λ u. by-fewest ∙ ap Ok ((no_pairs (fewest ch)).1 ((fewest-none ch esc).1 u)),
       )
 
       -- the pairs fill the front of the ring buffer
@@ -207,7 +198,7 @@ module _ (ch : Channel) (ring : List ℕ) where
           }
 
   -- so what the code promises holds, by the two equations
-  pub fewest-done : {r : RingAnswer} {ring' : List ℕ} → Held ch ring r ring' → FewestDone ch ring r ring'
+  pub fewest-done : {r : Result (Option ℕ) Refusal} {ring' : List ℕ} → Held ch ring r ring' → FewestDone ch ring r ring'
   fewest-done h =
       record {
         answer = h.answer;

@@ -1,5 +1,5 @@
--- 02, Req 05, "The fewest wires to move": the ring with the fewest nets, as it is worked out. What it is, is said in
--- Promise.
+-- SCOPE, Req 05, "The fewest wires to move": the ring with the fewest nets, as it is worked out. What it is, is said
+-- in Promise.
 use Rattle.std.specs.Prelude.{ℕ, zero, suc, List, [], ◌∷◌, Bool, length, ltb, eqb}
 use Rattle.lists.specs.Lists.{keep, any_of, up_to, head_or}
 use Rattle.channel.specs.Channel.{Channel, nets}

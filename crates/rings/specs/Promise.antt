@@ -1,4 +1,4 @@
--- 02, Req 05, what the ring with the fewest nets is: over every ring of the channel.
+-- SCOPE, Req 05, what the ring with the fewest nets is: over every ring of the channel.
 use Rattle.std.specs.Prelude.{ℕ, ◌*◌, ◌≤◌, ◌<◌, ◌≡◌, ◌↔◌, length, take, drop}
 use mathlib.Core.List.{List, [], ◌∷◌, ◌++◌, Memᴰ}
 use Rattle.lists.specs.Lists.{head_or}
@@ -51,7 +51,7 @@ pub record ShowsFewest (ch : Channel) (k : ℕ) (ring ring' : List ℕ) : Type 0
   pub remainder : drop (2 * k) ring' ≡ drop (2 * k) ring
   pub shown : FewestRing ch steps
 
--- Req 05 of 02, of the number k of pairs that the caller is answered, 0 for none, and of the ring buffer that the
+-- Req 05, of the number k of pairs that the caller is answered, 0 for none, and of the ring buffer that the
 -- caller then holds. Rules out: none answered for a ring of two nets (none-exactly); a long ring where there is a
 -- shorter one (shown)
 pub record FewestPromise (ch : Channel) (k : ℕ) (ring ring' : List ℕ) : Type 0 where

@@ -16,15 +16,20 @@ ghost use Rattle.rings.specs.Search.{numbers, StepsKnown, FewestSteps, Nearest, 
 use crate::search::search;
 use grid::{COLUMN_SLOTS, NET_SLOTS, Net, WIDEST};
 
-// The fewest steps down from net n back to itself, 0 if none lead back.
-fn way_back(upper: &[u32], head: &[u16; NET_SLOTS], next: &[u16; COLUMN_SLOTS], n: usize) -> u16
+// The fewest steps down from net n back to itself, 0 if none lead back. `queue` is room for the nets found.
+fn way_back(
+    upper: &[u32],
+    head: &[u16; NET_SLOTS],
+    next: &[u16; COLUMN_SLOTS],
+    n: usize,
+    queue: &mut [u16; NET_SLOTS],
+) -> u16
     requires { StepsKnown upper.now head.now next.now × Memᴰ n numbers }
     ensures { (below : ℕ → List ℕ) → Stepped below numbers upper.now head.now next.now
         → FewestSteps below n n result }
 {
     let mut far = [0u16; NET_SLOTS];
-    let mut queue = [0u16; NET_SLOTS];
-    search(upper, head, next, n, &mut far, &mut queue);
+    search(upper, head, next, n, &mut far, queue);
     far[n]
 }
 
@@ -46,12 +51,14 @@ fn nearest(
     ensures { (below : ℕ → List ℕ) → Stepped below numbers upper.now head.now next.now
         → Nearest below highest result.net result.nets }
 {
+    // cleared once for all searches
+    let mut queue = [0u16; NET_SLOTS];
     let mut net: u32 = 0;
     let mut nets: u32 = 0;
     let mut n: u32 = 0;
     while n < highest {
         n += 1;
-        let back = way_back(upper, head, next, n as usize) as u32;
+        let back = way_back(upper, head, next, n as usize, &mut queue) as u32;
         if (back != 0) & ((nets == 0) | (back < nets)) {
             net = n;
             nets = back;

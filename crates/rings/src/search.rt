@@ -35,7 +35,8 @@ fn note_above(
 }
 
 // For each net number the fewest steps down, one or more, from it to net `to`: 0 if none lead there. `far` holds 0
-// everywhere; `queue` is room for the nets found.
+// everywhere; `queue` is room for the nets found. Kept out of line, since inlined it is slower by a twentieth.
+#[inline(never)]
 pub fn search(
     upper: &[u32],
     head: &[u16],

@@ -1,5 +1,5 @@
--- 02, Req 06, of what the router stores: the fill's own copy of the columns, made of the rows without the parked pins,
--- has at the number of each record that the caller then holds its first and its last column.
+-- SCOPE, Req 06, of what the router stores: the fill's own copy of the columns, made of the rows without the parked
+-- pins, has at the number of each record that the caller then holds its first and its last column.
 use Rattle.std.specs.Prelude.{ℕ, take}
 use Rattle.std.proofs.Common.{subst}
 use mathlib.Core.List.Memᴰ

@@ -1,5 +1,8 @@
 -- The equations of Route give the promises: the chain of refusals is silent up to 7 for a channel that escapes, and
--- then they are demand 3 and Reqs 02, 04 and 07 of 02.
+-- then they are demand 3 and Reqs 02, 04 and 07.
+use Rattle.router.specs.declared.Drawn.{Drawn}
+use Rattle.router.specs.Route.{drawn_board}
+use Rattle.std.specs.Prelude.{Result, Ok, Err}
 use Rattle.std.specs.Prelude.{ℕ, ◌+◌, ◌*◌, ◌≡◌, List, ◌↔◌, ◌⊎◌, drop}
 use Rattle.std.proofs.Common.{arith, sym, ◌∙◌, subst}
 use Rattle.std.proofs.Math.Path.{ap, subst⁻¹}
@@ -11,7 +14,7 @@ use Rattle.std.proofs.Math.Seq.{take_at}
 use Rattle.lists.specs.Lists.{overlay}
 use Rattle.refusal.specs.declared.Refusal.{Refusal}
 use Rattle.refusal.specs.declared.Refusal.TheVariants as refusal
-use Rattle.refusal.specs.Refusals.{◌or_else◌, answered, filled_unless}
+use Rattle.refusal.specs.Refusals.{◌or_else◌, answered, told, filled_unless}
 use Rattle.refusal.specs.ChainLaws.{none-or-else-later}
 use Rattle.refusal.specs.Trays.{Tray, short_tray}
 use Rattle.grid.specs.Pieces.{Layout}
@@ -36,8 +39,6 @@ use Rattle.drawing.specs.Draw.{draw}
 use Rattle.promises.specs.Router.{Refused, RouterPromise, Bare, NoneParked}
 use Rattle.promises.specs.Proved.{demand3, req04}
 use Rattle.promises.proofs.TurnProved.{floor-promise, copper-promise}
-use Rattle.router.specs.declared.RouteAnswer.{RouteAnswer}
-use Rattle.router.specs.declared.RouteAnswer.TheVariants as route
 use Rattle.router.specs.Route.{ring_shown, tangled, layout_drawn, records_made, route_refusal, route_answer}
 use Rattle.router.specs.Route.{board_after}
 use Rattle.router.specs.Route.{filled_under7, ring_after, looks_unless, looks_answered, route_told}
@@ -54,12 +55,12 @@ module _ (trays : List Tray) (ch : Channel) (room : short_tray trays ≡ none) (
 
   -- the answer, ring and board by the end of the fill
   pub stuck-answer : (left : List ℕ) → fill ch ≡ stuck left
-      → route_answer trays ch ≡ route.Refused (refusal.Tangled (length (ring_of (net_items ch) left)))
+      → route_answer trays ch ≡ Err (refusal.Tangled (length (ring_of (net_items ch) left)))
   unfolding route_answer answered tangled ring_shown
   stuck-answer left e = rw (only-tangled, e, tangled, answered)
 
   pub filled-answer : (t : ℕ) (ps : List Place) → fill ch ≡ filled t ps
-      → route_answer trays ch ≡ route.Routed t (length (draw ch t ps).pieces)
+      → route_answer trays ch ≡ Ok (drawn_board t (length (draw ch t ps).pieces))
   unfolding route_answer answered tangled layout_drawn draw
   filled-answer t ps e = rw (only-tangled, e, tangled, answered, layout_drawn)
 
@@ -94,18 +95,18 @@ module _ (trays : List Tray) (ch : Channel) (room : short_tray trays ≡ none) (
   number = (route_told (route_answer trays ch)).number
 
   filled-number : (t : ℕ) (ps : List Place) → fill ch ≡ filled t ps → number ≡ 0
-  unfolding route_told
-  filled-number t ps e = ap (λ (r : RouteAnswer). (route_told r).number) (filled-answer t ps e)
+  unfolding told
+  filled-number t ps e = ap (λ (r : Result Drawn Refusal). (route_told r).number) (filled-answer t ps e)
 
   seven-exactly : (number ≡ 7) ↔ Refused ch
-  unfolding route_told
+  unfolding told
   seven-exactly = (
     λ h. ⊎_elim (λ f. absurd (let z = filled-number f.0 f.1 f.2 in omega arith)) (λ r. r) ends,
-    λ r. ap (λ (a : RouteAnswer). (route_told a).number) (stuck-answer r.0 r.1),
+    λ r. ap (λ (a : Result Drawn Refusal). (route_told a).number) (stuck-answer r.0 r.1),
   )
 
   -- a routed answer comes of a filled channel
-  routed-filled : (t n : ℕ) → route_answer trays ch ≡ route.Routed t n
+  routed-filled : (t n : ℕ) → route_answer trays ch ≡ Ok (drawn_board t n)
       → (ps : List Place) × (fill ch ≡ filled t ps) × (length (draw ch t ps).pieces ≡ n)
   routed-filled t n h = ⊎_elim was-filled was-stuck ends
     where
@@ -113,8 +114,9 @@ module _ (trays : List Tray) (ch : Channel) (room : short_tray trays ≡ none) (
           → (ps : List Place) × (fill ch ≡ filled t ps) × (length (draw ch t ps).pieces ≡ n)
       was-filled f =
           let same = sym (filled-answer f.0 f.1 f.2) ∙ h in
-          let tracks : f.0 ≡ t = cc in
-          let count : length (draw ch f.0 f.1).pieces ≡ n = cc in (
+          let board : drawn_board f.0 (length (draw ch f.0 f.1).pieces) ≡ drawn_board t n = cc in
+          let tracks = ap (λ (d : Drawn). d.tracks) board in
+          let count = ap (λ (d : Drawn). d.pieces) board in (
             f.1,
             f.2 ∙ ap (λ (u : ℕ). filled u f.1) tracks,
             subst (λ (u : ℕ). length (draw ch u f.1).pieces ≡ n) tracks count,
@@ -126,7 +128,7 @@ module _ (trays : List Tray) (ch : Channel) (room : short_tray trays ≡ none) (
           let z : ◌≡◌ {A = ℕ} 0 1 = cc in
           absurd (omega arith)
 
-  shows-ring : (ring : List ℕ) (k : ℕ) → route_answer trays ch ≡ route.Refused (refusal.Tangled k)
+  shows-ring : (ring : List ℕ) (k : ℕ) → route_answer trays ch ≡ Err (refusal.Tangled k)
       → ShowsRing ch k (ring_after trays ch ring)
   shows-ring ring k h =
       ⊎_elim (λ f. absurd (let same = sym (filled-answer f.0 f.1 f.2) ∙ h in let z : ◌≡◌ {A = ℕ} 0 1 = cc in
@@ -147,7 +149,7 @@ module _ (trays : List Tray) (ch : Channel) (room : short_tray trays ≡ none) (
                 ∙ take_at pairs (drop (length pairs) ring) (2 * k) size;
           }
 
-  holds-layout : (board : List ℕ) (t n : ℕ) → route_answer trays ch ≡ route.Routed t n
+  holds-layout : (board : List ℕ) (t n : ℕ) → route_answer trays ch ≡ Ok (drawn_board t n)
       → HoldsLayout ch t n (take (4 + 4 * n) (board_after trays ch board))
   unfolding layout_drawn file_layout draw
   holds-layout board t n h =

@@ -1,4 +1,6 @@
 -- The equations of the routing by value, in each of its cases.
+use Rattle.router.specs.Route.{drawn_board}
+use Rattle.std.specs.Prelude.{Ok}
 use Rattle.std.specs.Prelude.{ℕ, ◌≤◌, ◌<◌, ◌≡◌, List, length, ltb, eqb}
 use Rattle.std.proofs.Common.{arith, ◌∙◌, ⊎_elim, ltb→lt, lt→ltb, eqb→eq}
 use Rattle.std.proofs.Math.Path.{sym, subst⁻¹}
@@ -21,7 +23,6 @@ use Rattle.leftedge.specs.Nets.{net_items, fill, looks, records}
 use Rattle.boardfile.specs.Encode.{encode}
 use Rattle.drawing.specs.Draw.{draw}
 use Rattle.router.specs.declared.Routing.{Routing}
-use Rattle.router.specs.declared.RouteAnswer.TheVariants as route
 use Rattle.router.specs.Route.{
   tangled,
   records_made,
@@ -130,7 +131,7 @@ module _ (ch : Channel) (ring board : List ℕ) where
 
       -- filled: the board is written, and the records are answered
       pub filled-held : {r : Routing} (t : ℕ) (ps : List Place) {board' : List ℕ} → fill ch ≡ filled t ps
-          → r.answer ≡ route.Routed t (length (draw ch t ps).pieces) → Listed (records ch ps) r.records r.count
+          → r.answer ≡ Ok (drawn_board t (length (draw ch t ps).pieces)) → Listed (records ch ps) r.records r.count
           → r.looks ≡ looks ch → board' ≡ overlay (encode (width ch) (draw ch t ps)) board
           → Held ch ring board r ring board'
       unfolding records_unless records_after ring_after filled_under7 filled_unless tangled records_made

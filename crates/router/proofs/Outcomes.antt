@@ -1,23 +1,22 @@
 -- From what the router's parts answer to the equations of `route`: the rows refused, a fill that is stuck, and a fill
 -- that is drawn and listed.
+use Rattle.router.specs.Route.{drawn_board}
+use Rattle.std.specs.Prelude.{Ok, Err}
 use Rattle.std.specs.Prelude.{ℕ, ◌≤◌}
 use native.Mathlib.Omega.{arith}
 use Rattle.std.proofs.Math.Path.{◌≡◌, refl, sym, ap}
 use Rattle.std.proofs.Common.{◌∙◌, subst}
-use mathlib.Core.List.{List, map, Memᴰ}
+use mathlib.Core.List.{List, Memᴰ}
 use Rattle.std.proofs.Math.ListN.{length}
 use Rattle.refusal.specs.declared.Refusal.{Refusal}
 use Rattle.refusal.specs.declared.Refusal.TheVariants as refusal
 use Rattle.refusal.specs.Trays.{ring_tray, board_tray}
-use Rattle.grid.specs.declared.Track.{Track}
-use Rattle.grid.specs.Pieces.{track, Layout}
-use Rattle.channel.specs.declared.RowsAnswer.TheVariants as checking
-use Rattle.channel.specs.declared.spans.Spans.{Spans}
+use Rattle.grid.specs.Pieces.{Layout}
 use Rattle.channel.specs.Channel.{Channel, spanning}
-use Rattle.channel.proofs.BoundLaws.{refused→some}
+use Rattle.refusal.specs.ChainLaws.{err→some}
 use Rattle.channel.proofs.ToldLaws.{rows-numbers}
 use Rattle.channel.specs.Answers.{rows_refusal, rows_answer, Escapes}
-use Rattle.channel.specs.Spans.{each512, SpansFound}
+use Rattle.channel.specs.Spans.{each512, Spans}
 use Rattle.channel.proofs.SpanLaws.{spanning→}
 use Rattle.leftedge.specs.declared.Outcome.TheVariants.{Placed, Stuck}
 use Rattle.leftedge.specs.declared.Filled.{Filled}
@@ -34,7 +33,6 @@ use Rattle.drawing.specs.CountLaws.{few-pieces}
 use Rattle.drawing.proofs.CodeLaws.{track-is, drawn-by}
 use Rattle.promises.specs.Proved.{trays-fit}
 use Rattle.router.specs.declared.Routing.{Routing}
-use Rattle.router.specs.declared.RouteAnswer.TheVariants as route
 use Rattle.router.specs.Route.{route_trays}
 use Rattle.router.specs.Tables.{records_by, Listed}
 use Rattle.router.proofs.TableLaws.{made-records}
@@ -42,18 +40,19 @@ use Rattle.router.specs.CodeLaws.{Held, RefusedWith}
 use Rattle.router.proofs.HeldLaws.{refused-held, rows-refused, stuck-held, filled-held}
 
 -- a fill that placed every net, on t tracks: the places are those of the definitions, and the array has their tracks
-pub record PlacedBy (ch : Channel) (t : ℕ) (tracks : List Track) : Type 0 where
+pub record PlacedBy (ch : Channel) (t : ℕ) (tracks : List ℕ) : Type 0 where
   pub places : List Place
   pub ended : fill ch ≡ filled t places
-  pub array : tracks ≡ map track (each512 (track_of places))
+  pub array : tracks ≡ each512 (track_of places)
 
-module _ {ch : Channel} {ring ring' : List ℕ} {f : Filled} (done : FillDone ch ring f ring') where
+module _ {ch : Channel} {ring ring' : List ℕ} {f : Filled} {s : Spans} {tracks : List ℕ}
+    (done : FillDone ch ring f s tracks ring') where
   -- how the fill ended, from the code's answer
-  pub placed→ : {t : ℕ} → f.outcome ≡ Placed t → PlacedBy ch t f.tracks × (ring' ≡ ring)
+  pub placed→ : {t : ℕ} → f.outcome ≡ Placed t → PlacedBy ch t tracks × (ring' ≡ ring)
   unfolding outcome_of ring_held tracks_by
   placed→ {t} e = go (fill ch) refl
     where
-      go : (g : Filling) → fill ch ≡ g → PlacedBy ch t f.tracks × (ring' ≡ ring)
+      go : (g : Filling) → fill ch ≡ g → PlacedBy ch t tracks × (ring' ≡ ring)
       go (filled u ps) h =
           let told : Placed u ≡ Placed t = sym (done.outcome ∙ ap (outcome_of ch) h) ∙ e in
           let same : u ≡ t = cc in
@@ -66,7 +65,7 @@ module _ {ch : Channel} {ring ring' : List ℕ} {f : Filled} (done : FillDone ch
 
 module _ (ch : Channel) (esc : Escapes ch) where
   -- what the drawing asks of the tracks
-  pub placed-tracked : {t : ℕ} {tracks : List Track} → PlacedBy ch t tracks → Tracked ch tracks t
+  pub placed-tracked : {t : ℕ} {tracks : List ℕ} → PlacedBy ch t tracks → Tracked ch tracks t
   placed-tracked {t} {tracks} p =
       record { escapes = esc; few = (trays-fit ch esc).tracks-fit t p.places p.ended; tracked = tracked }
     where
@@ -77,7 +76,7 @@ module _ (ch : Channel) (esc : Escapes ch) where
           ((nets-filled ch esc t p.places p.ended).tracked n (spanning→order ch esc.even n m))
 
   -- a board as long as refusal 1 asks has room for the drawing
-  pub placed-drawable : {t : ℕ} {tracks : List Track} {board : List ℕ} → board_tray ≤ length board → PlacedBy ch t tracks
+  pub placed-drawable : {t : ℕ} {tracks : List ℕ} {board : List ℕ} → board_tray ≤ length board → PlacedBy ch t tracks
       → Drawable ch tracks t board
   unfolding drawn_by
   placed-drawable {t} {tracks} long p =
@@ -87,16 +86,17 @@ module _ (ch : Channel) (esc : Escapes ch) where
 module _ (ch : Channel) (ring board : List ℕ) (hr : ring_tray ≤ length ring) (hb : board_tray ≤ length board)
     {r : Routing} where
   -- the rows are refused
-  pub rows-held : {q : Refusal} → rows_answer ch ≡ checking.Refused q → RefusedWith q 0 r
+  pub rows-held : {q : Refusal} → Err q ≡ rows_answer ch → RefusedWith q 0 r
       → Held ch ring board r ring board
   unfolding rows_answer
   rows-held {q} e a =
-      let said = refused→some (rows_refusal ch) q e in
+      let said = err→some tt (rows_refusal ch) (sym e) in
       let low = rows-numbers ch q said in
       let first = rows-refused ch ring board hr hb q said in
       refused-held (route_trays (length ring) (length board)) ch ring board first (λ seven. omega arith) a
 
-  module _ (esc : Escapes ch) {ring' : List ℕ} {f : Filled} (done : FillDone ch ring f ring') where
+  module _ (esc : Escapes ch) {ring' : List ℕ} {f : Filled} {s : Spans} {tracks : List ℕ}
+      (done : FillDone ch ring f s tracks ring') where
     -- the fill is stuck, and the ring is answered
     pub tangled-held : {pairs : ℕ} → f.outcome ≡ Stuck pairs → RefusedWith (refusal.Tangled pairs) f.looks r
         → Held ch ring board r ring' board
@@ -117,17 +117,16 @@ module _ (ch : Channel) (ring board : List ℕ) (hr : ring_tray ≤ length ring)
             (done.held ∙ ap (λ (g : Filling). ring_held ch g ring) h)
 
     -- the fill is done, and the board and the records are answered
-    pub routed-held : {t pieces : ℕ} {s : Spans} {board' : List ℕ} → f.outcome ≡ Placed t → SpansFound ch s
-        → r.answer ≡ route.Routed t pieces → BoardDrawn ch (drawn_by ch f.tracks t) board pieces board'
-        → Listed (records_by s f.tracks) r.records r.count → r.looks ≡ f.looks
+    pub routed-held : {t pieces : ℕ} {board' : List ℕ} → f.outcome ≡ Placed t → r.answer ≡ Ok (drawn_board t pieces) → BoardDrawn ch (drawn_by ch tracks t) board pieces board'
+        → Listed (records_by s tracks) r.records r.count → r.looks ≡ f.looks
         → Held ch ring board r ring' board'
-    routed-held {t} {s = s} e found a d listed seen =
+    routed-held {t} e a d listed seen =
         let p = placed→ done e in
         let ps = p.0.places in
-        let drawn = drawn-by ch t ps f.tracks p.0.array in
-        let made = made-records ch esc s found ps f.tracks p.0.array in
+        let drawn = drawn-by ch t ps tracks p.0.array in
+        let made = made-records ch esc s done.spans ps tracks p.0.array in
         let count = d.counted ∙ ap (λ (l : Layout). length l.pieces) drawn in
         rw p.1
-        (filled-held ch ring board hr hb esc t ps p.0.ended (a ∙ ap (route.Routed t) count)
+        (filled-held ch ring board hr hb esc t ps p.0.ended (a ∙ ap (λ (k : ℕ). Ok (drawn_board t k)) count)
         (subst (λ (l : List NetRecord). Listed l r.records r.count) made listed) (seen ∙ done.looks)
         (d.written ∙ rw drawn))

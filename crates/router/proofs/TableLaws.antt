@@ -1,6 +1,6 @@
 -- The table grows by the record of each number that has a first column; with a channel's own arrays these numbers are
 -- its nets, and the table is that of the definitions.
-use Rattle.std.specs.Prelude.{ℕ, ◌+◌, ◌≤◌, ◌<◌, ◌≡◌, length, set, eqb}
+use Rattle.std.specs.Prelude.{ℕ, ◌+◌, ◌≤◌, ◌<◌, ◌≡◌, length, get_or, set, eqb}
 use Rattle.std.proofs.Common.{arith, sym, ◌∙◌, length-append, take_all, eqb→eq, eq-eqb, ne_eqb}
 use Rattle.std.proofs.Math.Path.{refl, ap, subst}
 use mathlib.Core.List.{List, [], ◌∷◌, ◌++◌, map, map-append, Memᴰ}
@@ -16,12 +16,13 @@ use Rattle.lists.specs.Overlays.{stored_next}
 use Rattle.lists.specs.Tallies.{keep_same}
 use Rattle.lists.specs.Updates.{map_same, keep-next-passes, keep-next-fails}
 use Rattle.refusal.specs.Trays.{record_tray}
+use Rattle.grid.specs.declared.Column.{Column}
 use Rattle.grid.specs.declared.Track.{Track}
-use Rattle.grid.specs.Pieces.{track}
-use Rattle.channel.specs.declared.spans.Spans.{Spans}
+use Rattle.grid.specs.Pieces.{column, track, net}
+use Rattle.grid.specs.Numbers.{column_numbers, track_numbers, column-at, track-at}
 use Rattle.channel.specs.Channel.{Channel, highest_net, is_net, nets}
 use Rattle.channel.specs.Answers.{Escapes}
-use Rattle.channel.specs.Spans.{each512, SpansFound}
+use Rattle.channel.specs.Spans.{each512, Spans, spans, SpansFound}
 use Rattle.channel.proofs.SpanLaws.{nets→}
 use Rattle.leftedge.specs.declared.NetRecord.{NetRecord}
 use Rattle.leftedge.specs.Items.{Place, track_of}
@@ -30,7 +31,14 @@ use Rattle.drawing.specs.Code.{column_in}
 use Rattle.drawing.proofs.CodeLaws.{track-is, first-is, last-is, spans→net, spans→none}
 use Rattle.router.specs.Tables.{record_at, has_first, records_to, records_by, nobody, no_records, Listed}
 
-module _ (s : Spans) (tracks : List Track) where
+-- what typed arrays have of number n
+pub made-at : (first last : List Column) (tracks : List Track) (n : ℕ)
+    → record_at (spans (column_numbers first) (column_numbers last)) (track_numbers tracks) n
+    ≡ record { number = net n; first = get_or first n (column 0); last = get_or last n (column 0); track = get_or tracks n (track 0) }
+unfolding record_at
+made-at first last tracks n = rw (column-at first n, column-at last n, track-at tracks n) refl
+
+module _ (s : Spans) (tracks : List ℕ) where
   pub none_made : records_to s tracks 0 ≡ []
   unfolding records_to keep from
   none_made = refl
@@ -90,7 +98,7 @@ module _ (ch : Channel) (esc : Escapes ch) (s : Spans) (found : SpansFound ch s)
           ⊎_elim (λ z. rw (eq-eqb c 0 z) (sym (spans→none ch esc s found n r.1 z)))
           (λ z. rw (ne_eqb c 0 z) (sym (spans→net ch esc s found n r.1 z))) (equal? c 0)
 
-  pub made-records : (ps : List Place) (tracks : List Track) → tracks ≡ map track (each512 (track_of ps))
+  pub made-records : (ps : List Place) (tracks : List ℕ) → tracks ≡ each512 (track_of ps)
       → records_by s tracks ≡ records ch ps
   unfolding records_to records record_at record_of
   made-records ps tracks e =

@@ -45,7 +45,7 @@ module _ (ch : Channel) (table : List NetRecord) (ring board : List ℕ) where
     -- demand 3 whole, for every channel that escapes refusals 1 to 5
     pub promise : record_tray ≤ length table → ring_tray ≤ length ring → board_tray ≤ length board → Escapes ch
         → RoutePromise ch r.answer ring' board'
-    -- and Req 02 of 02
+    -- and Req 02
     pub turned : record_tray ≤ length table → ring_tray ≤ length ring → board_tray ≤ length board → Escapes ch
         → TurnedOver ch r.answer board'
     -- and Req 04
@@ -72,7 +72,7 @@ module _ (ch : Channel) (ring board : List ℕ) where
     -- demand 3 whole, for every channel that escapes refusals 1 to 5
     pub promise : ring_tray ≤ length ring → board_tray ≤ length board → Escapes ch
         → RoutePromise ch r.answer ring' board'
-    -- and Req 02 of 02
+    -- and Req 02
     pub turned : ring_tray ≤ length ring → board_tray ≤ length board → Escapes ch → TurnedOver ch r.answer board'
     -- and Req 04
     pub parked : ring_tray ≤ length ring → board_tray ≤ length board → Escapes ch

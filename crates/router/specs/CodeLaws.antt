@@ -1,11 +1,11 @@
 -- What the router's inner functions answer: the equations of the routing by value, and a refusal.
+use Rattle.std.specs.Prelude.{Err}
 use Rattle.std.specs.Prelude.{ℕ, ◌≡◌, List, length}
 use Rattle.refusal.specs.declared.Refusal.{Refusal}
 use Rattle.refusal.specs.Trays.{Tray}
 use Rattle.channel.specs.Channel.{Channel}
 use Rattle.leftedge.specs.Nets.{fill}
 use Rattle.router.specs.declared.Routing.{Routing}
-use Rattle.router.specs.declared.RouteAnswer.TheVariants as route
 use Rattle.router.specs.Route.{records_made, route_trays, route_refusal, route_answer, records_after, board_after, ring_after, looks_answered}
 use Rattle.router.specs.Tables.{no_records}
 use Rattle.router.specs.Code.{records_unless}
@@ -25,7 +25,7 @@ Held ch ring board = HeldBy (route_trays (length ring) (length board)) ch ring b
 
 -- a refusal is answered after so many looks, and a table of nobody's
 pub record RefusedWith (q : Refusal) (looked : ℕ) (r : Routing) : Type 0 where
-  pub answer : r.answer ≡ route.Refused q
+  pub answer : r.answer ≡ Err q
   pub counted : r.count ≡ 0
   pub looks : r.looks ≡ looked
   pub table : r.records ≡ no_records

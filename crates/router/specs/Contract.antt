@@ -1,5 +1,9 @@
 -- What the router promises of what the caller then holds: the equations of Route, demand 3 whole, and Reqs 02, 04 and
--- 07 of 02.
+-- 07.
+use Rattle.router.specs.declared.Drawn.{Drawn}
+use Rattle.router.specs.Route.{drawn_board}
+use Rattle.refusal.specs.declared.Refusal.{Refusal}
+use Rattle.std.specs.Prelude.{Result, Ok, Err}
 use Rattle.std.specs.Prelude.{ℕ, ◌+◌, ◌*◌, ◌≤◌, ◌≡◌, List, ◌↔◌, length, take}
 use Rattle.std.proofs.Math.Option.{none}
 use Rattle.refusal.specs.declared.Refusal.TheVariants as refusal
@@ -18,8 +22,6 @@ use Rattle.leftedge.specs.declared.NetRecord.{NetRecord}
 use Rattle.channel.specs.Parked.{ParkedBeside}
 use Rattle.promises.specs.Router.{NoLayout, Fewest, Bare, NoneParked}
 use Rattle.promises.specs.Bounds.{OneTrunkFloor, larger_bound}
-use Rattle.router.specs.declared.RouteAnswer.{RouteAnswer}
-use Rattle.router.specs.declared.RouteAnswer.TheVariants.{Routed, Refused}
 use Rattle.router.specs.Route.{layout_drawn, route_told}
 
 -- the front of the ring buffer is a ring of k different nets, each above the next in its named column, and the last
@@ -44,52 +46,52 @@ pub record HoldsLayout (ch : Channel) (t n : ℕ) (file : List ℕ) : Type 0 whe
 -- Demand 3, and the floor of Req 02, of the answer r and of the ring and board that the caller then holds. Rules out:
 -- a router that calls each channel tangled, or does so before filling (tangled-exactly); one that hands out the same or
 -- an empty board (laid_out); tracks answered one too many (laid_out, fewest).
-pub record RoutePromise (ch : Channel) (r : RouteAnswer) (ring board : List ℕ) : Type 0 where
+pub record RoutePromise (ch : Channel) (r : Result Drawn Refusal) (ring board : List ℕ) : Type 0 where
   -- "refuses .. as tangled exactly when no good layout of it with at most one trunk piece per net exists"
   pub tangled-exactly : ((route_told r).number ≡ 7) ↔ NoLayout ch
   -- and exactly when a ring exists
   pub ring-exactly : ((route_told r).number ≡ 7) ↔ Tangled ch
   -- "That refusal shows a ring of different nets"
-  pub ring-shown : (k : ℕ) → r ≡ Refused (refusal.Tangled k) → ShowsRing ch k ring
+  pub ring-shown : (k : ℕ) → r ≡ Err (refusal.Tangled k) → ShowsRing ch k ring
   -- "Every other such channel gets a good layout with at most one trunk piece per net"
-  pub every-other : ((route_told r).number ≡ 7 → ⊥) → (t n : ℕ) × (r ≡ Routed t n)
-  pub laid_out : (t n : ℕ) → r ≡ Routed t n → HoldsLayout ch t n (take (4 + 4 * n) board)
+  pub every-other : ((route_told r).number ≡ 7 → ⊥) → (t n : ℕ) × (r ≡ Ok (drawn_board t n))
+  pub laid_out : (t n : ℕ) → r ≡ Ok (drawn_board t n) → HoldsLayout ch t n (take (4 + 4 * n) board)
   -- "Where no column holds pins of two different nets, the tracks .. equal the density, and every other good layout ..
   -- has at least as many"
-  pub fewest : Unconstrained ch → (t n : ℕ) → r ≡ Routed t n → (t ≡ density ch) × Fewest ch t
-  -- 01, "Filling tracks": "Density and chain are each at most t, and t is at most the number of nets"
-  pub floors : (t n : ℕ) → r ≡ Routed t n → (density ch ≤ t) × (chain ch ≤ t) × (t ≤ length (nets ch))
-  -- 02, Req 02: "every good layout with at most one trunk piece per net has at least chain tracks, so the larger bound
+  pub fewest : Unconstrained ch → (t n : ℕ) → r ≡ Ok (drawn_board t n) → (t ≡ density ch) × Fewest ch t
+  -- SCOPE, "Filling tracks": "Density and chain are each at most t, and t is at most the number of nets"
+  pub floors : (t n : ℕ) → r ≡ Ok (drawn_board t n) → (density ch ≤ t) × (chain ch ≤ t) × (t ≤ length (nets ch))
+  -- Req 02: "every good layout with at most one trunk piece per net has at least chain tracks, so the larger bound
   -- is a floor for such layouts". The board is one; where it has no more tracks than that, no such layout has fewer
-  pub one-trunk-floor : (t n : ℕ) → r ≡ Routed t n → (larger_bound ch ≤ t) × OneTrunkFloor ch (larger_bound ch)
+  pub one-trunk-floor : (t n : ℕ) → r ≡ Ok (drawn_board t n) → (larger_bound ch ≤ t) × OneTrunkFloor ch (larger_bound ch)
 
 -- the layout of the board file of n pieces at the front of the board, turned over
 abbrev pub turned_board : ℕ → List ℕ → Layout
 turned_board n board = flipped (file_layout (take (4 + 4 * n) board))
 
--- Req 02 of 02, of the answer r and of the board that the caller then holds. It follows from demand 3 and rules out no
+-- Req 02, of the answer r and of the board that the caller then holds. It follows from demand 3 and rules out no
 -- further program; it says of the turned list what a fitter asks.
-pub record TurnedOver (ch : Channel) (r : RouteAnswer) (board : List ℕ) : Type 0 where
+pub record TurnedOver (ch : Channel) (r : Result Drawn Refusal) (board : List ℕ) : Type 0 where
   -- "a turned channel is tangled exactly when the first is"
   pub tangled-exactly : ((route_told r).number ≡ 7) ↔ Tangled (turned ch)
   -- the same copper turned over is a good layout of the turned list, with at most one trunk piece per net
-  pub good : (t n : ℕ) → r ≡ Routed t n → Good (turned ch) (turned_board n board)
-  pub one_trunk_each : (t n : ℕ) → r ≡ Routed t n → OneTrunkEach (turned ch) (turned_board n board)
+  pub good : (t n : ℕ) → r ≡ Ok (drawn_board t n) → Good (turned ch) (turned_board n board)
+  pub one_trunk_each : (t n : ℕ) → r ≡ Ok (drawn_board t n) → OneTrunkEach (turned ch) (turned_board n board)
 
--- Req 04 of 02, of the answer r and of the records made and the board that the caller then holds. Rules out: a parked
+-- Req 04, of the answer r and of the records made and the board that the caller then holds. Rules out: a parked
 -- net that gets a record (no_record); one that still blocks a column, for which a channel is called tangled
 -- (tangled-exactly) or tracks are wasted (fewest); copper that ends at a parked pin (no-copper).
-pub record ParkedBare (ch : Channel) (r : RouteAnswer) (made : List NetRecord) (board : List ℕ) : Type 0 where
+pub record ParkedBare (ch : Channel) (r : Result Drawn Refusal) (made : List NetRecord) (board : List ℕ) : Type 0 where
   -- "the router gives it no record"
   pub no_record : NoneParked ch made
   -- "no copper"
-  pub no-copper : (t n : ℕ) → r ≡ Routed t n → Bare ch (file_layout (take (4 + 4 * n) board))
+  pub no-copper : (t n : ℕ) → r ≡ Ok (drawn_board t n) → Bare ch (file_layout (take (4 + 4 * n) board))
   -- "Tangled channels are those that stay so with the parked pins removed"
   pub tangled-exactly : ((route_told r).number ≡ 7) ↔ Tangled (without_parked ch)
   -- "Where the owner's promise looks for a column with pins of two different nets, parked pins are not counted"
-  pub fewest : ParkedBeside ch → (t n : ℕ) → r ≡ Routed t n → (t ≡ density ch) × Fewest ch t
+  pub fewest : ParkedBeside ch → (t n : ℕ) → r ≡ Ok (drawn_board t n) → (t ≡ density ch) × Fewest ch t
 
--- Req 07 of 02, of the number of looks that the caller is answered, with a board or under 7. Rules out: the last scan
+-- Req 07, of the number of looks that the caller is answered, with a board or under 7. Rules out: the last scan
 -- not counted where it stays empty; a net counted only where it is placed; looks of a tangled channel answered as 0.
 pub record LooksPromise (ch : Channel) (looked : ℕ) : Type 0 where
   -- "That number equals the sum over scans of the nets unplaced when the scan began."

@@ -1,11 +1,13 @@
--- 01, refusals 1, 3 to 5 and 7 of the router, and 02, Req 07: its answer, the looks of its fill, and what each lent
+-- SCOPE, refusals 1, 3 to 5 and 7 of the router, and Req 07: its answer, the looks of its fill, and what each lent
 -- buffer then holds.
+use Rattle.router.specs.declared.Drawn.{Drawn}
+use Rattle.std.specs.Prelude.{Result}
 use Rattle.std.specs.Prelude.{ℕ, List, [], ◌∷◌, cond, length, eqb}
 use Rattle.std.proofs.Math.Option.{Option, none, some}
 use Rattle.lists.specs.Lists.{overlay}
 use Rattle.refusal.specs.declared.Refusal.{Refusal}
 use Rattle.refusal.specs.declared.Refusal.TheVariants.{Tangled}
-use Rattle.refusal.specs.Refusals.{Told, told_refusal, told_values, number_of, ◌or_else◌, answered, filled_unless}
+use Rattle.refusal.specs.Refusals.{Told, number_of, ◌or_else◌, ok_unless, told, filled_unless}
 use Rattle.refusal.specs.Trays.{Tray, ring_tray, board_tray, record_tray, short_tray}
 use Rattle.grid.specs.Pieces.{Layout}
 use Rattle.channel.specs.Channel.{Channel, width}
@@ -17,8 +19,6 @@ use Rattle.leftedge.specs.Walk.{ring_of, ring_numbers}
 use Rattle.leftedge.specs.Nets.{net_items, fill, looks, records}
 use Rattle.boardfile.specs.Encode.{encode}
 use Rattle.drawing.specs.Draw.{draw}
-use Rattle.router.specs.declared.RouteAnswer.{RouteAnswer}
-use Rattle.router.specs.declared.RouteAnswer.TheVariants.{Routed, Refused}
 
 -- the ring that a fill shows: none where it is filled
 unfoldable pub ring_shown : Channel → Filling → List Step
@@ -50,10 +50,13 @@ route_trays_with_records table ring board = record { lent = table; needed = reco
 unfoldable pub route_refusal : List Tray → Channel → Option Refusal
 route_refusal trays ch = short_tray trays or_else rows_refusal ch or_else tangled ch (fill ch)
 
-unfoldable pub route_answer : List Tray → Channel → RouteAnswer
+abbrev pub drawn_board : ℕ → ℕ → Drawn
+drawn_board tracks pieces = record { tracks = tracks; pieces = pieces }
+
+unfoldable pub route_answer : List Tray → Channel → Result Drawn Refusal
 route_answer trays ch =
     let l = layout_drawn ch (fill ch) in
-    answered Refused (route_refusal trays ch) (Routed l.tracks (length l.pieces))
+    ok_unless (route_refusal trays ch) (drawn_board l.tracks (length l.pieces))
 
 -- the lent table and board after routing
 unfoldable pub records_after : List Tray → Channel → List NetRecord → List NetRecord
@@ -70,7 +73,7 @@ filled_under7 (some r) pairs ring = cond (eqb (number_of r) 7) (overlay pairs ri
 unfoldable pub ring_after : List Tray → Channel → List ℕ → List ℕ
 ring_after trays ch ring = filled_under7 (route_refusal trays ch) (ring_numbers (ring_shown ch (fill ch))) ring
 
--- 02, Req 07: the fill "returns the count with either outcome", a board or 7; under another refusal it is not begun
+-- SCOPE, Req 07: the fill "returns the count with either outcome", a board or 7; under another refusal it is not begun
 unfoldable pub looks_unless : Option Refusal → ℕ → ℕ
 looks_unless none n = n
 looks_unless (some r) n = cond (eqb (number_of r) 7) n 0
@@ -79,6 +82,5 @@ unfoldable pub looks_answered : List Tray → Channel → ℕ
 looks_answered trays ch = looks_unless (route_refusal trays ch) (looks ch)
 
 -- the pieces, then the tracks
-unfoldable pub route_told : RouteAnswer → Told
-route_told (Routed t n) = told_values (n ∷ t ∷ [])
-route_told (Refused r) = told_refusal r
+abbrev pub route_told : Result Drawn Refusal → Told
+route_told = told (λ d. d.pieces ∷ d.tracks ∷ [])

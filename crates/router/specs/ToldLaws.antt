@@ -1,13 +1,15 @@
 -- The router's answer is told by its refusal, or by the pieces and the tracks, which are at most 2,559 and 511.
+use Rattle.router.specs.Route.{drawn_board}
+use Rattle.std.specs.Prelude.{Ok}
 use Rattle.std.specs.Prelude.{ℕ, ◌≤◌, List, [], ◌∷◌}
 use native.Mathlib.Omega.{arith}
 use Rattle.std.proofs.Math.Path.{◌≡◌, refl, ap}
 use Rattle.std.proofs.Common.{sym, ◌∙◌}
 use Rattle.std.proofs.Math.Option.{none}
 use Rattle.std.proofs.Math.ListN.{length}
-use Rattle.refusal.specs.Refusals.{◌or_else◌, told_by}
+use Rattle.refusal.specs.Refusals.{◌or_else◌, told_by, told}
 use Rattle.refusal.specs.ChainLaws.{or_else_none}
-use Rattle.refusal.specs.ToldLaws.{answered-told, told-success}
+use Rattle.refusal.specs.ToldLaws.{told-ok_unless, told-success}
 use Rattle.refusal.specs.Trays.{Tray, short_tray}
 use Rattle.grid.specs.Pieces.{Layout}
 use Rattle.channel.specs.Channel.{Channel}
@@ -17,7 +19,6 @@ use Rattle.leftedge.specs.Fill.{Filling, filled, stuck}
 use Rattle.leftedge.specs.Nets.{fill}
 use Rattle.drawing.specs.Draw.{draw}
 use Rattle.promises.specs.Proved.{trays-fit}
-use Rattle.router.specs.declared.RouteAnswer.TheVariants.{Routed}
 use Rattle.router.specs.Route.{tangled, layout_drawn, route_refusal, route_answer, route_told}
 
 module _ (trays : List Tray) (ch : Channel) where
@@ -26,11 +27,11 @@ module _ (trays : List Tray) (ch : Channel) where
 
   pub route-told : route_told (route_answer trays ch)
       ≡ told_by (route_refusal trays ch) (length drawn.pieces ∷ drawn.tracks ∷ [])
-  unfolding route_answer route_told
-  route-told = answered-told route_told _ _ _ (λ r. refl) refl (route_refusal trays ch)
+  unfolding route_answer
+  route-told = told-ok_unless _ (route_refusal trays ch) _
 
-  pub routed-small : {t n : ℕ} → route_answer trays ch ≡ Routed t n → (t ≤ 511) × (n ≤ 2559)
-  unfolding route_told route_refusal tangled layout_drawn draw
+  pub routed-small : {t n : ℕ} → route_answer trays ch ≡ Ok (drawn_board t n) → (t ≤ 511) × (n ≤ 2559)
+  unfolding told route_refusal tangled layout_drawn draw
   routed-small {t} {n} e =
       let s = told-success (route_refusal trays ch) _ (n ∷ t ∷ []) (sym route-told ∙ ap route_told e) in
       let late = or_else_none (short_tray trays) (rows_refusal ch or_else tangled ch (fill ch)) s.0 in

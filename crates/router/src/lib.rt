@@ -3,29 +3,29 @@
 
 mod progress;
 
-ghost use Rattle.std.specs.Prelude.{◌≡◌, ◌≤◌, ◌<◌, length, take};
+ghost use Rattle.std.specs.Prelude.{◌≡◌, ◌≤◌, ◌<◌, length, take, replicate};
 ghost use Rattle.lists.specs.Lists.{overlay};
 ghost use Rattle.refusal.specs.Trays.{record_tray, ring_tray, board_tray};
+ghost use Rattle.grid.specs.Numbers.{column_numbers, track_numbers};
 ghost use Rattle.channel.specs.Channel.{rows};
 ghost use Rattle.channel.specs.Answers.{Escapes};
+ghost use Rattle.channel.specs.Spans.{spans};
 ghost use Rattle.router.specs.Route.{route_trays_with_records};
 ghost use Rattle.router.specs.Code.{RouteDone, RowsDone};
 ghost use Rattle.router.specs.CodeLaws.{HeldBy, Held, RefusedWith};
 ghost use Rattle.router.specs.Tables.{records_by, no_records, Listed};
 ghost use Rattle.leftedge.specs.Code.{FillDone};
 
-use channel::{RowsAnswer, Spans};
 use grid::{Column, NET_SLOTS, NETS, Net, Track, WIDEST};
 use leftedge::{Filled, NetRecord, Outcome};
-pub use progress::{LooksAnswer, ceiling, looks};
+pub use progress::{ceiling, looks};
 use refusal::{BOARD_TRAY, RECORD_TRAY, RING_TRAY, Refusal};
 
-// What the router answers.
-#[derive(Clone, Copy)]
-pub enum RouteAnswer {
-    // a board of so many tracks and pieces
-    Routed { tracks: u32, pieces: u32 },
-    Refused(Refusal),
+// A board that was drawn.
+#[derive(Clone, Copy, Debug, PartialEq, Eq)]
+pub struct Drawn {
+    pub tracks: u32,
+    pub pieces: u32,
 }
 
 // The router's answer, with the net records at the front of a table: as many as `count` says, none under a refusal; the
@@ -33,7 +33,7 @@ pub enum RouteAnswer {
 // 0 where the fill was not begun.
 #[derive(Clone, Copy)]
 pub struct Routing {
-    pub answer: RouteAnswer,
+    pub answer: Result<Drawn, Refusal>,
     pub records: [NetRecord; RECORD_TRAY],
     pub count: usize,
     pub looks: usize,
@@ -61,25 +61,25 @@ fn blank_records() -> [NetRecord; RECORD_TRAY]
 
 // The record of each number that has a first column, in rising number. The records are stored where the table lies: one
 // passed by value would be copied whole for each.
-fn make_records(spans: Spans, tracks: [Track; NET_SLOTS]) -> Table
-    ensures { Listed (records_by spans tracks) result.records result.count }
+fn make_records(
+    first: &[Column; NET_SLOTS],
+    last: &[Column; NET_SLOTS],
+    tracks: &[Track; NET_SLOTS],
+) -> Table
+    ensures { Listed (records_by (spans (column_numbers first.now) (column_numbers last.now)) (track_numbers tracks.now)) result.records result.count }
 {
-    let firsts = spans.first;
-    let lasts = spans.last;
     let mut records = blank_records();
     let mut count: usize = 0;
     let mut n: usize = 0;
     while n < NETS {
         n += 1;
-        let first = firsts[n];
-        if first.0 != 0 {
-            let last = lasts[n];
-            let track = tracks[n];
+        let begin = first[n];
+        if begin.0 != 0 {
             let record = NetRecord {
                 number: Net(n as u32),
-                first,
-                last,
-                track,
+                first: begin,
+                last: last[n],
+                track: tracks[n],
             };
             records[count] = record;
             count += 1;
@@ -94,23 +94,35 @@ fn refused(refusal: Refusal, looks: usize) -> Routing
 {
     let records = blank_records();
     Routing {
-        answer: RouteAnswer::Refused(refusal),
+        answer: Err(refusal),
         records,
         count: 0,
         looks,
     }
 }
 
-// Fills the tracks of a channel that escapes refusals 3 to 5, from its rows without the parked pins.
-fn fill_nets(top: &[u32], bot: &[u32], ring: &mut [u32]) -> Filled
+// Fills the tracks of a channel that escapes refusals 3 to 5, from its rows without the parked pins, into the tables
+// lent. Rows without parked pins are taken as they are.
+fn fill_nets(
+    top: &[u32],
+    bot: &[u32],
+    first: &mut [Column; NET_SLOTS],
+    last: &mut [Column; NET_SLOTS],
+    tracks: &mut [Track; NET_SLOTS],
+    ring: &mut [u32],
+) -> Filled
     requires { Escapes (rows top.now bot.now) × (ring_tray ≤ length ring.old) }
-    ensures { FillDone (rows top.now bot.now) ring.old result ring.new }
+    ensures { FillDone (rows top.now bot.now) ring.old result (spans (column_numbers first.new) (column_numbers last.new))
+        (track_numbers tracks.new) ring.new }
 {
+    if !channel::has_parked(top, bot) {
+        return leftedge::fill_tracks(top, bot, first, last, tracks, ring);
+    }
     let w = top.len();
     let mut upper = [0u32; WIDEST];
     let mut lower = [0u32; WIDEST];
     channel::remove_parked(top, bot, &mut upper, &mut lower);
-    leftedge::fill_tracks(&upper[..w], &lower[..w], ring)
+    leftedge::fill_tracks(&upper[..w], &lower[..w], first, last, tracks, ring)
 }
 
 // Routes a channel that escapes refusals 3 to 5, with the buffers that it needs. A parked number has no columns, so
@@ -122,18 +134,18 @@ fn route_checked(top: &[u32], bot: &[u32], ring: &mut [u32], board: &mut [u8]) -
     ensures { Held (rows top.now bot.now) ring.old board.old result
         ring.new board.new }
 {
-    let filled = fill_nets(top, bot, ring);
-    let spans = filled.spans;
-    let outcome = filled.outcome;
-    let tracks = filled.tracks;
-    match outcome {
+    let mut first = [Column(0); NET_SLOTS];
+    let mut last = [Column(0); NET_SLOTS];
+    let mut tracks = [Track(0); NET_SLOTS];
+    let filled = fill_nets(top, bot, &mut first, &mut last, &mut tracks, ring);
+    match filled.outcome {
         Outcome::Stuck(pairs) => refused(Refusal::Tangled(pairs as usize), filled.looks),
         Outcome::Placed(t) => {
-            let pieces = drawing::draw_board(top, bot, spans, tracks, t, board);
-            let table = make_records(spans, tracks);
+            let pieces = drawing::draw_board(top, bot, &first, &last, &tracks, t, board);
+            let table = make_records(&first, &last, &tracks);
             let records = table.records;
             Routing {
-                answer: RouteAnswer::Routed { tracks: t, pieces },
+                answer: Ok(Drawn { tracks: t, pieces }),
                 records,
                 count: table.count,
                 looks: filled.looks,
@@ -154,8 +166,8 @@ fn route_by_value(top: &[u32], bot: &[u32], ring: &mut [u32], board: &mut [u8]) 
         return refused(Refusal::ShortTray(BOARD_TRAY), 0);
     }
     match channel::check(top, bot) {
-        RowsAnswer::Refused(refusal) => refused(refusal, 0),
-        RowsAnswer::Accepted => route_checked(top, bot, ring, board),
+        Err(refusal) => refused(refusal, 0),
+        Ok(()) => route_checked(top, bot, ring, board),
     }
 }
 
@@ -193,7 +205,7 @@ fn store_records(records: &mut [NetRecord], made: [NetRecord; RECORD_TRAY], coun
 // `looks` as in `Routing`.
 #[derive(Clone, Copy)]
 pub struct Routed {
-    pub answer: RouteAnswer,
+    pub answer: Result<Drawn, Refusal>,
     pub count: usize,
     pub looks: usize,
 }

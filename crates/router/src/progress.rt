@@ -7,16 +7,8 @@ ghost use Rattle.leftedge.specs.Looks.{ceiling};
 ghost use Rattle.leftedge.specs.Nets.{looks};
 ghost use Rattle.router.specs.Progress.{looks_answer, ceiling_answer};
 
-use channel::RowsAnswer;
-use grid::{NET_SLOTS, WIDEST};
+use grid::{Column, NET_SLOTS, WIDEST};
 use refusal::Refusal;
-
-// What is answered to a request for looks, or for their ceiling.
-#[derive(Clone, Copy)]
-pub enum LooksAnswer {
-    Looks(usize),
-    Refused(Refusal),
-}
 
 // The looks of a channel that escapes refusals 3 to 5.
 fn looks_of_checked(top: &[u32], bot: &[u32]) -> usize
@@ -31,13 +23,11 @@ fn looks_of_checked(top: &[u32], bot: &[u32]) -> usize
 }
 
 // The looks of rows of any lengths and numbers, tangled or not, or the first of refusals 3 to 5 that applies.
-pub fn looks(top: &[u32], bot: &[u32]) -> LooksAnswer
+pub fn looks(top: &[u32], bot: &[u32]) -> Result<usize, Refusal>
     ensures { result ≡ looks_answer (rows top.now bot.now) }
 {
-    match channel::check(top, bot) {
-        RowsAnswer::Refused(refusal) => LooksAnswer::Refused(refusal),
-        RowsAnswer::Accepted => LooksAnswer::Looks(looks_of_checked(top, bot)),
-    }
+    channel::check(top, bot)?;
+    Ok(looks_of_checked(top, bot))
 }
 
 // How many nets with spans are in rows that show nets only.
@@ -45,8 +35,8 @@ fn count_spanning(top: &[u32], bot: &[u32]) -> usize
     requires { NetsOnly (rows top.now bot.now) }
     ensures { result ≡ length (spanning (rows top.now bot.now)) }
 {
-    let mut first = [0u32; NET_SLOTS];
-    let mut last = [0u32; NET_SLOTS];
+    let mut first = [Column(0); NET_SLOTS];
+    let mut last = [Column(0); NET_SLOTS];
     channel::find_columns(top, bot, &mut first, &mut last);
     let mut items = [0u32; NET_SLOTS];
     channel::list_spanning(top, bot, &first, &last, &mut items)
@@ -67,11 +57,9 @@ fn ceiling_of_checked(top: &[u32], bot: &[u32]) -> usize
 
 // The most looks that a fill of so many nets with spans can take, of rows of any lengths and numbers, or the first of
 // refusals 3 to 5 that applies.
-pub fn ceiling(top: &[u32], bot: &[u32]) -> LooksAnswer
+pub fn ceiling(top: &[u32], bot: &[u32]) -> Result<usize, Refusal>
     ensures { result ≡ ceiling_answer (rows top.now bot.now) }
 {
-    match channel::check(top, bot) {
-        RowsAnswer::Refused(refusal) => LooksAnswer::Refused(refusal),
-        RowsAnswer::Accepted => LooksAnswer::Looks(ceiling_of_checked(top, bot)),
-    }
+    channel::check(top, bot)?;
+    Ok(ceiling_of_checked(top, bot))
 }

@@ -1,6 +1,7 @@
 -- An entry keeps its function's contract where the number that it answers is that of the function's answer; and what
 -- the function promises of its answer, the entry promises of the number.
-use Rattle.std.specs.Prelude.{ℕ, ◌+◌, ◌*◌, ◌≤◌, ◌<◌, ◌≡◌, List, [], ◌∷◌, ◌↔◌, cond, take, eqb}
+use Rattle.std.specs.Prelude.{ℕ, ◌+◌, ◌*◌, ◌≤◌, ◌<◌, ◌≡◌, List, [], ◌∷◌, ◌↔◌, cond, take, eqb, unwrap_or, Result, Ok, Err}
+use Rattle.std.specs.declared.option.Option as found
 use Rattle.std.proofs.Common.{arith, ◌∙◌, subst₂}
 use Rattle.std.proofs.Math.Path.{refl, sym, ap, ap₂, subst}
 use Rattle.std.proofs.Math.Logic.Iff as Iff
@@ -8,12 +9,11 @@ use Rattle.std.proofs.Math.Option.{Option, none, some}
 use Rattle.std.proofs.Math.ListN.{length}
 use Rattle.lists.specs.Lists.{head_or, Lowest}
 use Rattle.refusal.specs.declared.Refusal.{Refusal}
-use Rattle.refusal.specs.Refusals.{number_of, place_of, told_values, told_by}
+use Rattle.refusal.specs.Refusals.{number_of, place_of, told_values, told_by, told}
 use Rattle.refusal.specs.ChainLaws.{answered-none}
 use Rattle.refusal.specs.TrayLaws.{refusal-numbered}
 use Rattle.refusal.specs.ToldLaws.{told-success}
 use Rattle.refusal.specs.Trays.{ring_tray, board_tray}
-use Rattle.channel.specs.declared.BoundsAnswer.TheVariants as bounds
 use Rattle.channel.specs.Channel.{Channel, width, widest, spanning}
 use Rattle.channel.specs.Density.{density}
 use Rattle.channel.specs.Constraints.{chain}
@@ -21,8 +21,6 @@ use Rattle.channel.specs.Answers.{Escapes, rows_refusal, bounds_answer, bounds_t
 use Rattle.channel.proofs.EscapeLaws.{accepted-exactly}
 use Rattle.channel.specs.CountLaws.{nets-few}
 use Rattle.channel.proofs.ToldLaws.{bounds-told, density-small, chain-small, ring-small}
-use Rattle.pinlist.specs.declared.ReadAnswer.{ReadAnswer}
-use Rattle.pinlist.specs.declared.ReadAnswer.TheVariants as reading
 use Rattle.pinlist.specs.Answers.{read_told}
 use Rattle.pinlist.specs.Code.{ReadDone}
 use Rattle.pinlist.specs.ToldLaws.{width_small}
@@ -30,16 +28,12 @@ use Rattle.leftedge.specs.Walk.{ring_of}
 use Rattle.leftedge.specs.Looks.{ceiling}
 use Rattle.leftedge.specs.Nets.{net_items, looks}
 use Rattle.leftedge.proofs.NetFill.{looks≤ceiling}
-use Rattle.rings.specs.declared.RingAnswer.{RingAnswer}
-use Rattle.rings.specs.declared.RingAnswer.TheVariants as rings
 use Rattle.rings.specs.Fewest.{fewest}
 use Rattle.rings.specs.Answers.{fewest_refusal, fewest_told}
 use Rattle.rings.specs.Promise.{FewestPromise}
 use Rattle.rings.specs.Code.{FewestDone}
 use Rattle.rings.proofs.FewestLaws.{fewest-few}
 use Rattle.rings.proofs.AnswerLaws.{fewest-told, fewest-accepted, counted}
-use Rattle.panel.specs.declared.JoinAnswer.{JoinAnswer}
-use Rattle.panel.specs.declared.JoinAnswer.TheVariants as joining
 use Rattle.panel.specs.Joined.{Fits}
 use Rattle.panel.specs.Answers.{join_refusal, join_answer, join_told}
 use Rattle.panel.specs.Promise.{RaisedOver}
@@ -58,18 +52,14 @@ use Rattle.judge.specs.Code.{Judged}
 use Rattle.judge.proofs.OnBytes.{found-on-bytes}
 use Rattle.judge.proofs.OnBytes.{fault-between}
 use Rattle.judge.proofs.ToldLaws.{found_told, unrefused-told, good-small, fault-small}
-use Rattle.blanks.specs.declared.BlankAnswer.{BlankAnswer}
-use Rattle.blanks.specs.declared.BlankAnswer.TheVariants as blanks
 use Rattle.blanks.specs.Stock.{blank_answer, blank_told}
 use Rattle.blanks.specs.Promise.{OwnPromise}
 use Rattle.blanks.specs.Code.{value_told, OwnDone}
 use Rattle.blanks.proofs.ToldLaws.{fourteen-exactly, blank-small, own-small}
 use Rattle.promises.specs.Proved.{demand3}
 use Rattle.router.specs.declared.Routing.{Routing}
-use Rattle.router.specs.declared.RouteAnswer.{RouteAnswer}
-use Rattle.router.specs.declared.RouteAnswer.TheVariants as routing
-use Rattle.router.specs.declared.progress.LooksAnswer.TheVariants as progress
-use Rattle.router.specs.Route.{route_trays, route_told}
+use Rattle.router.specs.declared.Drawn.{Drawn}
+use Rattle.router.specs.Route.{route_trays, drawn_board, route_told}
 use Rattle.router.specs.Contract.{ShowsRing, RoutePromise, TurnedOver, ParkedBare, LooksPromise}
 use Rattle.router.proofs.ContractLaws.{stuck-answer}
 use Rattle.router.proofs.HeldLaws.{room}
@@ -95,14 +85,14 @@ use Rattle.screen_api.specs.Code.{
 }
 
 -- reading
-module _ {text top bot top' bot' : List ℕ} {a : ReadAnswer} (done : ReadDone text top bot a top' bot') where
+module _ {text top bot top' bot' : List ℕ} {a : Result ℕ Refusal} (done : ReadDone text top bot a top' bot') where
   pub read-entry : {r : ℕ} → r ≡ entry_number (read_told a) → ReadEntry text top bot r top' bot'
   read-entry e =
       let answer = e ∙ ap (λ x. entry_number (read_told x)) done.answer in
       record { answer = answer; decoded = decoded answer; top_held = done.top_held; bot_held = done.bot_held }
 
-  pub read-width : {w : ℕ} → a ≡ reading.Width w → ReadEntry text top bot w top' bot'
-  unfolding read_told
+  pub read-width : {w : ℕ} → a ≡ Ok w → ReadEntry text top bot w top' bot'
+  unfolding told
   read-width {w} e =
       let small = width_small text (length top) (length bot) (sym done.answer ∙ e) in
       read-entry (rw e (value-number (omega (arith, small))))
@@ -126,8 +116,8 @@ module _ (ch : Channel) where
           let short = chain-small ch in
           pair-back (omega arith) (omega arith) (zero→values (rows_refusal ch) _ (e ∙ ap entry_number (bounds-told ch)) h)
 
-  pub bounds-given : {d k : ℕ} → bounds_answer ch ≡ bounds.Bounds d k → BoundsEntry ch (d * 65536 + k)
-  unfolding bounds_told
+  pub bounds-given : {d k : ℕ} → bounds_answer ch ≡ Ok (record { density = d; chain = k }) → BoundsEntry ch (d * 65536 + k)
+  unfolding told
   bounds-given {d} {k} q =
       let same = (told-success (rows_refusal ch) _ (d ∷ k ∷ []) (sym (bounds-told ch) ∙ ap bounds_told q)).1 in
       let upper : density ch ≡ d = cc in
@@ -137,19 +127,19 @@ module _ (ch : Channel) where
       bounds-entry (rw q (pair-number (omega arith) (omega arith)))
 
 -- routing
-module _ {a : RouteAnswer} {r : ℕ} (e : r ≡ entry_number (route_told a)) where
+module _ {a : Result Drawn Refusal} {r : ℕ} (e : r ≡ entry_number (route_told a)) where
   -- a number with 0 in its upper half is that of a routed channel, whose tracks and pieces it has
-  routed-back : ((t n : ℕ) → a ≡ routing.Routed t n → (t ≤ 511) × (n ≤ 2559)) → refusal_in r ≡ 0
-      → a ≡ routing.Routed (tracks_in r) (pieces_in r)
-  unfolding route_told
+  routed-back : ((t n : ℕ) → a ≡ Ok (drawn_board t n) → (t ≤ 511) × (n ≤ 2559)) → refusal_in r ≡ 0
+      → a ≡ Ok (drawn_board (tracks_in r) (pieces_in r))
+  unfolding told
   routed-back small h = go a refl
     where
-      go : (b : RouteAnswer) → a ≡ b → a ≡ routing.Routed (tracks_in r) (pieces_in r)
-      go (routing.Routed t n) q =
-          let few = small t n q in
+      go : (b : Result Drawn Refusal) → a ≡ b → a ≡ Ok (drawn_board (tracks_in r) (pieces_in r))
+      go (Ok d) q =
+          let few = small d.tracks d.pieces q in
           let back = pair-back (omega arith) (omega arith) (e ∙ ap (λ x. entry_number (route_told x)) q) in
-          q ∙ ap₂ routing.Routed (sym back.tracks) (sym back.pieces)
-      go (routing.Refused o) q =
+          q ∙ ap₂ (λ t n. Ok (drawn_board t n)) (sym back.tracks) (sym back.pieces)
+      go (Err o) q =
           let n = (decoded (e ∙ ap (λ x. entry_number (route_told x)) q)).number in
           absurd (omega (arith, refusal-numbered o))
 
@@ -166,12 +156,12 @@ module _ {ch : Channel} {ring board ring' board' : List ℕ} {a : Routing}
       parked : ParkedBare ch a.answer (take a.count a.records) board'
       parked = done.parked hr hb esc
 
-      back : refusal_in r ≡ 0 → a.answer ≡ routing.Routed (tracks_in r) (pieces_in r)
+      back : refusal_in r ≡ 0 → a.answer ≡ Ok (drawn_board (tracks_in r) (pieces_in r))
       back = routed-back e (λ t n q. routed-small (route_trays (length ring) (length board)) ch (sym done.answer ∙ q))
 
       -- under 7 the place is the number of pairs, at most 511
       shown : refusal_in r ≡ 7 → ShowsRing ch (place_in r) ring'
-      unfolding route_told
+      unfolding told
       shown h =
           let seven : (route_told a.answer).number ≡ 7 = sym (decoded e).number ∙ h in
           let left = (demand3 ch esc).refused-exactly.1 (said.tangled-exactly.0 seven) in
@@ -185,7 +175,7 @@ module _ {ch : Channel} {ring board ring' board' : List ℕ} {a : Routing}
           subst (λ (m : ℕ). ShowsRing ch m ring') (sym same) ring-of-k
 
       number-promise : RouteNumberPromise ch r ring' board'
-      unfolding route_told
+      unfolding told
       number-promise =
           record {
             tangled-exactly = number-exactly (decoded e) said.tangled-exactly;
@@ -217,14 +207,14 @@ module _ {ch : Channel} {ring board ring' board' : List ℕ} {a : Routing}
           promise = number-promise;
         }
 
-  pub route-routed : {t n : ℕ} → a.answer ≡ routing.Routed t n → RouteEntry ch ring board (n * 65536 + t) ring' board'
-  unfolding route_told
+  pub route-routed : {t n : ℕ} → a.answer ≡ Ok (drawn_board t n) → RouteEntry ch ring board (n * 65536 + t) ring' board'
+  unfolding told
   route-routed q =
       let small = routed-small (route_trays (length ring) (length board)) ch (sym done.answer ∙ q) in
       route-entry (rw q (pair-number (omega arith) (omega arith)))
 
 -- the ring with the fewest nets
-module _ {ch : Channel} {ring ring' : List ℕ} {a : RingAnswer} (done : FewestDone ch ring a ring') where
+module _ {ch : Channel} {ring ring' : List ℕ} {a : Result (found.Option ℕ) Refusal} (done : FewestDone ch ring a ring') where
   -- there are at most 511 nets
   pairs-fit : fewest ch < 4294967296
   pairs-fit = let few = fewest-few ch in let all = nets-few ch in omega arith
@@ -248,20 +238,16 @@ module _ {ch : Channel} {ring ring' : List ℕ} {a : RingAnswer} (done : FewestD
       }
 
   -- a number of pairs is told as itself, and none as 0
-  pub fewest-pairs : {k : ℕ} → a ≡ rings.Pairs k → FewestEntry ch ring k ring'
-  unfolding fewest_told
-  fewest-pairs {k} q =
-      let s = told-success (fewest_refusal (length ring) ch) _ (k ∷ [])
+  pub fewest-pairs : {pairs : found.Option ℕ} → a ≡ Ok pairs → FewestEntry ch ring (unwrap_or pairs 0) ring'
+  unfolding told
+  fewest-pairs {pairs} q =
+      let s = told-success (fewest_refusal (length ring) ch) _ (unwrap_or pairs 0 ∷ [])
       (sym (fewest-told (length ring) ch) ∙ ap fewest_told (sym done.answer ∙ q)) in
-      let same : fewest ch ≡ k = cc s.1 in
+      let same : fewest ch ≡ unwrap_or pairs 0 = cc s.1 in
       fewest-entry (rw q (value-number (omega (arith, same, pairs-fit))))
 
-  pub fewest-none : a ≡ rings.NoRing → FewestEntry ch ring 0 ring'
-  unfolding fewest_told
-  fewest-none q = fewest-entry (rw q (value-number (omega arith)))
-
 -- two lists on one panel
-module _ {ch dh : Channel} {top bot top' bot' : List ℕ} {a : JoinAnswer} (done : JoinDone ch dh top bot a top' bot')
+module _ {ch dh : Channel} {top bot top' bot' : List ℕ} {a : Result ℕ Refusal} (done : JoinDone ch dh top bot a top' bot')
     {r : ℕ} (e : r ≡ entry_number (join_told a)) where
   abbrev refusal : Option Refusal
   refusal = join_refusal (length top) (length bot) ch dh
@@ -275,36 +261,36 @@ module _ {ch dh : Channel} {top bot top' bot' : List ℕ} {a : JoinAnswer} (done
   accepted = Iff.trans (zero-exactly refusal _ by-refusal) (join-accepted ch dh top bot)
 
   -- where 0 is read, the width comes back
-  width_read : refusal_in r ≡ 0 → a ≡ joining.Width (place_in r)
+  width_read : refusal_in r ≡ 0 → a ≡ Ok (place_in r)
   unfolding join_answer
   width_read h =
       let fits = accepted.0 h in
       let narrow = fits.1.columns in
       let back = value-back (zero→values refusal _ by-refusal h) (omega arith) in
-      done.answer ∙ (answered-none joining.Refused refusal (joining.Width (width ch + width dh))
-      ((join-accepted ch dh top bot).1 fits) ∙ ap joining.Width (sym back))
+      done.answer ∙ (answered-none Err refusal (Ok (width ch + width dh))
+      ((join-accepted ch dh top bot).1 fits) ∙ ap Ok (sym back))
 
   module _ (long : LongRows top bot) (esc₁ : Escapes ch) (esc₂ : Escapes dh) (narrow : width ch + width dh ≤ widest)
       (p : ℕ) where
     place-small : {n : ℕ} → Lowest (RaisedOver ch dh) n → n ≤ 1022
     place-small l = over-small ch dh (highest-low esc₁) (highest-low esc₂) l.holds
 
-    full-read : (b : JoinAnswer) → a ≡ b → refusal_in r ≡ 18 → place_in r ≡ p → Lowest (RaisedOver ch dh) p
-    unfolding join_told
-    full-read (joining.Width w) q n h =
+    full-read : (b : Result ℕ Refusal) → a ≡ b → refusal_in r ≡ 18 → place_in r ≡ p → Lowest (RaisedOver ch dh) p
+    unfolding told
+    full-read (Ok w) q n h =
         let z = (decoded (e ∙ ap (λ x. entry_number (join_told x)) q)).number in absurd (omega arith)
-    full-read (joining.Refused f) q n h =
+    full-read (Err f) q n h =
         let by = e ∙ ap (λ x. entry_number (join_told x)) q in
         let d = decoded by in
         let number = d.number in
         let is = eighteen f (sym number ∙ n) in
-        let l = (done.full-exactly long esc₁ esc₂ narrow (place_of f)).0 (q ∙ ap joining.Refused is) in
+        let l = (done.full-exactly long esc₁ esc₂ narrow (place_of f)).0 (q ∙ ap Err is) in
         let small = place-small l in
         let back = place-back (number_of f) by (omega arith) in
         subst (Lowest (RaisedOver ch dh)) (sym back ∙ h) l
 
     full-told : Lowest (RaisedOver ch dh) p → (refusal_in r ≡ 18) × (place_in r ≡ p)
-    unfolding join_told
+    unfolding told
     full-told l =
         let q = (done.full-exactly long esc₁ esc₂ narrow p).1 l in
         let by = e ∙ ap (λ x. entry_number (join_told x)) q in
@@ -327,9 +313,9 @@ module _ {ch dh : Channel} {top bot top' bot' : List ℕ} {a : JoinAnswer} (done
         promise = λ h. done.promise (place_in r) (width_read h);
       }
 
-pub join-width : {ch dh : Channel} {top bot top' bot' : List ℕ} {a : JoinAnswer} → JoinDone ch dh top bot a top' bot'
-    → {w : ℕ} → a ≡ joining.Width w → JoinEntry ch dh top bot w top' bot'
-unfolding join_told
+pub join-width : {ch dh : Channel} {top bot top' bot' : List ℕ} {a : Result ℕ Refusal} → JoinDone ch dh top bot a top' bot'
+    → {w : ℕ} → a ≡ Ok w → JoinEntry ch dh top bot w top' bot'
+unfolding told
 join-width done {w} q =
     let small = width-told done q in join-entry done (rw q (value-number (omega arith)))
 
@@ -365,16 +351,16 @@ module _ (ch : Channel) where
         ceiling_read = λ h. value-back (zero→values (rows_refusal ch) _ by h) ceiling-fits;
       }
 
-  pub looks-given : {n : ℕ} → looks_answer ch ≡ progress.Looks n → LooksEntry ch n
-  unfolding looks_told
+  pub looks-given : {n : ℕ} → looks_answer ch ≡ Ok n → LooksEntry ch n
+  unfolding told
   looks-given {n} q =
       let s = told-success (rows_refusal ch) _ (n ∷ []) (sym (looks-told ch) ∙ ap looks_told q) in
       let same : looks ch ≡ n = cc s.1 in
       let most = looks≤ceiling ch ((accepted-exactly ch).0 s.0) in
       looks-entry (rw q (value-number (omega (arith, same, most, ceiling-fits))))
 
-  pub ceiling-given : {n : ℕ} → ceiling_answer ch ≡ progress.Looks n → CeilingEntry ch n
-  unfolding looks_told
+  pub ceiling-given : {n : ℕ} → ceiling_answer ch ≡ Ok n → CeilingEntry ch n
+  unfolding told
   ceiling-given {n} q =
       let s = told-success (rows_refusal ch) _ (n ∷ []) (sym (ceiling-told ch) ∙ ap looks_told q) in
       let same : ceiling (length (spanning ch)) ≡ n = cc s.1 in
@@ -450,16 +436,16 @@ module _ (t : ℕ) where
   pub blank-entry : {r : ℕ} → r ≡ entry_number (blank_told (blank_answer t)) → BlankEntry t r
   blank-entry e = record { answer = e; decoded = decoded e; refused = number-exactly (decoded e) (fourteen-exactly t) }
 
-  pub blank-held : {b : ℕ} → blank_answer t ≡ blanks.Blank b → BlankEntry t b
-  unfolding blank_told
+  pub blank-held : {b : ℕ} → blank_answer t ≡ Ok b → BlankEntry t b
+  unfolding told
   blank-held q = blank-entry (rw q (value-number (omega (arith, blank-small t q))))
 
-one_value : (a : BlankAnswer) → packed (blank_told a).values ≡ value_told a
-unfolding packed blank_told head_or
-one_value (blanks.Blank b) = refl
-one_value (blanks.Refused r) = refl
+one_value : (a : Result ℕ Refusal) → packed (blank_told a).values ≡ value_told a
+unfolding packed told head_or
+one_value (Ok b) = refl
+one_value (Err r) = refl
 
-module _ {table : List ℕ} {t : ℕ} {a : BlankAnswer} (done : OwnDone table t a) (fits : t < 4294967296) where
+module _ {table : List ℕ} {t : ℕ} {a : Result ℕ Refusal} (done : OwnDone table t a) (fits : t < 4294967296) where
   value-fits : value_told a < 4294967296
   value-fits = let small = own-small table t in omega (arith, small, ap value_told done.answer)
 
@@ -476,8 +462,8 @@ module _ {table : List ℕ} {t : ℕ} {a : BlankAnswer} (done : OwnDone table t 
         promise = subst₂ (OwnPromise table t) (sym (decoded e).number) (sym (value_read e)) done.promise;
       }
 
-  pub own_held : {b : ℕ} → a ≡ blanks.Blank b → OwnBlankEntry table t b
-  unfolding blank_told head_or
+  pub own_held : {b : ℕ} → a ≡ Ok b → OwnBlankEntry table t b
+  unfolding told head_or
   own_held {b} q =
       let few = (done.promise.chosen-exactly b).0 (rw q (refl, refl)) in
       let range = few.0.in_range b few.1.in_table in

@@ -49,7 +49,7 @@ pub record BoundsEntry (ch : Channel) (r : ℕ) : Type 0 where
   pub density_read : refusal_in r ≡ 0 → place_in r / 65536 ≡ density ch
   pub chain_read : refusal_in r ≡ 0 → place_in r % 65536 ≡ chain ch
 
--- Demand 3, and Reqs 02 and 04 of 02, of the number r and of the ring and board that the caller then holds
+-- Demand 3, and Reqs 02 and 04, of the number r and of the ring and board that the caller then holds
 pub record RouteNumberPromise (ch : Channel) (r : ℕ) (ring board : List ℕ) : Type 0 where
   pub tangled-exactly : (refusal_in r ≡ 7) ↔ NoLayout ch
   pub ring-exactly : (refusal_in r ≡ 7) ↔ Tangled ch
@@ -78,7 +78,7 @@ module _ (ch : Channel) (ring board : List ℕ) where
     pub board_held : board' ≡ board_after trays ch board
     pub promise : ring_tray ≤ length ring → board_tray ≤ length board → Escapes ch → RouteNumberPromise ch r ring' board'
 
--- Req 05 of 02, of the number r and of the ring that the caller then holds. Rules out: 7 told of a tangled channel
+-- Req 05, of the number r and of the ring that the caller then holds. Rules out: 7 told of a tangled channel
 -- (accepted); the ring of the walk where there is a shorter one (promise)
 pub record FewestEntry (ch : Channel) (ring : List ℕ) (r : ℕ) (ring' : List ℕ) : Type 0 where
   pub answer : r ≡ entry_number (fewest_told (fewest_answer (length ring) ch))
@@ -87,7 +87,7 @@ pub record FewestEntry (ch : Channel) (ring : List ℕ) (r : ℕ) (ring' : List 
   pub accepted : (refusal_in r ≡ 0) ↔ ((ring_tray ≤ length ring) × Escapes ch)
   pub promise : refusal_in r ≡ 0 → FewestPromise ch (place_in r) ring ring'
 
--- Req 09 of 02, of the number r and of the rows that the caller then holds. Rules out: a tangled list refused
+-- Req 09, of the number r and of the rows that the caller then holds. Rules out: a tangled list refused
 -- (accepted); the first raised number over 511 told for the lowest (full); 0 raised (promise)
 pub record JoinEntry (ch dh : Channel) (top bot : List ℕ) (r : ℕ) (top' bot' : List ℕ) : Type 0 where
   pub answer : r ≡ entry_number (join_told (join_answer (length top) (length bot) ch dh))
@@ -99,7 +99,7 @@ pub record JoinEntry (ch dh : Channel) (top bot : List ℕ) (r : ℕ) (top' bot'
       → (p : ℕ) → ((refusal_in r ≡ 18) × (place_in r ≡ p)) ↔ Lowest (RaisedOver ch dh) p
   pub promise : refusal_in r ≡ 0 → PanelPromise ch dh (rows (take (place_in r) top') (take (place_in r) bot'))
 
--- Req 07 of 02, of the number r. Rules out: a tangled channel refused (accepted); its last, empty scan not counted
+-- Req 07, of the number r. Rules out: a tangled channel refused (accepted); its last, empty scan not counted
 -- (promise)
 pub record LooksEntry (ch : Channel) (r : ℕ) : Type 0 where
   pub answer : r ≡ entry_number (looks_told (looks_answer ch))
@@ -137,7 +137,7 @@ pub record BlankEntry (tracks r : ℕ) : Type 0 where
   pub decoded : Decoded (blank_told (blank_answer tracks)) r
   pub refused : (refusal_in r ≡ 14) ↔ (512 < tracks)
 
--- Req 03 of 02, of the number r. Rules out: the last entry that holds the tracks, and 16 told of a bad table (promise)
+-- Req 03, of the number r. Rules out: the last entry that holds the tracks, and 16 told of a bad table (promise)
 pub record OwnBlankEntry (table : List ℕ) (tracks r : ℕ) : Type 0 where
   pub answer : r ≡ entry_number (blank_told (own_answer table tracks))
   pub decoded : Decoded (blank_told (own_answer table tracks)) r

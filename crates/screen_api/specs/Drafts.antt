@@ -1,4 +1,4 @@
--- 02, Req 14: what the entries of a draft answer to C, and what the lent words then hold, as the call that each is.
+-- SCOPE, Req 14: what the entries of a draft answer to C, and what the lent words then hold, as the call that each is.
 use Rattle.std.specs.Prelude.{ℕ, ◌≡◌, List}
 use Rattle.refusal.specs.Refusals.{Told}
 use Rattle.draft.specs.Marks.{LongDraft}

@@ -15,16 +15,11 @@ ghost use Rattle.screen_api.specs.Code.{ReadEntry, BoundsEntry, RouteEntry, Look
 ghost use Rattle.screen_api.specs.Code.{FewestEntry, JoinEntry, JudgeEntry, BlankEntry, OwnBlankEntry};
 ghost use Rattle.screen_api.specs.Drafts.{ChangeEntry, ClearEntry, AskEntry};
 
-use blanks::BlankAnswer;
-use channel::BoundsAnswer;
-use draft::{CountAnswer, DraftAnswer};
+use channel::LowerBounds;
 use grid::{Column, Net};
 use judge::{Fault, JudgeAnswer};
-use panel::JoinAnswer;
-use pinlist::ReadAnswer;
 use refusal::Refusal;
-use rings::RingAnswer;
-use router::{LooksAnswer, RouteAnswer};
+use router::Drawn;
 
 // A number of the table and its place, in one number.
 fn numbered_at(number: u32, place: usize) -> u64
@@ -51,8 +46,8 @@ pub extern "C" fn cabjirt_read(text: &[u8], top: &mut [u32], bot: &mut [u32]) ->
     ensures { ReadEntry text.now top.old bot.old result top.new bot.new }
 {
     match pinlist::read(text, top, bot) {
-        ReadAnswer::Width(w) => w as u64,
-        ReadAnswer::Refused(refusal) => refused(refusal),
+        Ok(w) => w as u64,
+        Err(refusal) => refused(refusal),
     }
 }
 
@@ -62,8 +57,8 @@ pub extern "C" fn cabjirt_bounds(top: &[u32], bot: &[u32]) -> u64
     ensures { BoundsEntry (rows top.now bot.now) result }
 {
     match channel::bounds(top, bot) {
-        BoundsAnswer::Bounds { density, chain } => density as u64 * 65536 + chain as u64,
-        BoundsAnswer::Refused(refusal) => refused(refusal),
+        Ok(LowerBounds { density, chain }) => density as u64 * 65536 + chain as u64,
+        Err(refusal) => refused(refusal),
     }
 }
 
@@ -77,8 +72,8 @@ pub extern "C" fn cabjirt_route(top: &[u32], bot: &[u32], ring: &mut [u32], boar
     let routing = router::route_rows(top, bot, ring, board);
     let answer = routing.answer;
     match answer {
-        RouteAnswer::Routed { tracks, pieces } => pieces as u64 * 65536 + tracks as u64,
-        RouteAnswer::Refused(refusal) => refused(refusal),
+        Ok(Drawn { tracks, pieces }) => pieces as u64 * 65536 + tracks as u64,
+        Err(refusal) => refused(refusal),
     }
 }
 
@@ -89,9 +84,8 @@ pub extern "C" fn cabjirt_fewest_ring(top: &[u32], bot: &[u32], ring: &mut [u32]
     ensures { FewestEntry (rows top.now bot.now) ring.old result ring.new }
 {
     match rings::fewest_ring(top, bot, ring) {
-        RingAnswer::Pairs(pairs) => pairs as u64,
-        RingAnswer::NoRing => 0,
-        RingAnswer::Refused(refusal) => refused(refusal),
+        Ok(pairs) => pairs.unwrap_or(0) as u64,
+        Err(refusal) => refused(refusal),
     }
 }
 
@@ -110,8 +104,8 @@ pub extern "C" fn cabjirt_join(
         top.old bot.old result top.new bot.new }
 {
     match panel::join(top1, bot1, top2, bot2, top, bot) {
-        JoinAnswer::Width(w) => w as u64,
-        JoinAnswer::Refused(refusal) => refused(refusal),
+        Ok(w) => w as u64,
+        Err(refusal) => refused(refusal),
     }
 }
 
@@ -122,8 +116,8 @@ pub extern "C" fn cabjirt_looks(top: &[u32], bot: &[u32]) -> u64
     ensures { LooksEntry (rows top.now bot.now) result }
 {
     match router::looks(top, bot) {
-        LooksAnswer::Looks(n) => n as u64,
-        LooksAnswer::Refused(refusal) => refused(refusal),
+        Ok(n) => n as u64,
+        Err(refusal) => refused(refusal),
     }
 }
 
@@ -133,8 +127,8 @@ pub extern "C" fn cabjirt_ceiling(top: &[u32], bot: &[u32]) -> u64
     ensures { CeilingEntry (rows top.now bot.now) result }
 {
     match router::ceiling(top, bot) {
-        LooksAnswer::Looks(n) => n as u64,
-        LooksAnswer::Refused(refusal) => refused(refusal),
+        Ok(n) => n as u64,
+        Err(refusal) => refused(refusal),
     }
 }
 
@@ -163,8 +157,8 @@ pub extern "C" fn cabjirt_blank(tracks: u32) -> u64
     ensures { BlankEntry tracks result }
 {
     match blanks::blank(tracks) {
-        BlankAnswer::Blank(held) => held as u64,
-        BlankAnswer::Refused(refusal) => refused(refusal),
+        Ok(held) => held as u64,
+        Err(refusal) => refused(refusal),
     }
 }
 
@@ -174,17 +168,17 @@ pub extern "C" fn cabjirt_own_blank(table: &[u32], tracks: u32) -> u64
     ensures { OwnBlankEntry table.now tracks result }
 {
     match blanks::own_blank(table, tracks) {
-        BlankAnswer::Blank(held) => held as u64,
-        BlankAnswer::Refused(refusal) => refused(refusal),
+        Ok(held) => held as u64,
+        Err(refusal) => refused(refusal),
     }
 }
 
-fn changed(answer: DraftAnswer) -> u64
+fn changed(answer: Result<(), Refusal>) -> u64
     ensures { result ≡ entry_number (draft_told answer) }
 {
     match answer {
-        DraftAnswer::Done => 0,
-        DraftAnswer::Refused(refusal) => refused(refusal),
+        Ok(()) => 0,
+        Err(refusal) => refused(refusal),
     }
 }
 
@@ -212,13 +206,13 @@ pub extern "C" fn cabjirt_draft_leave(words: &mut [u64], number: u32) -> u64
     changed(draft::leave(words, Net(number)))
 }
 
-fn counted(answer: CountAnswer) -> u64
+fn counted(answer: Result<u32, Refusal>) -> u64
     requires { Few answer }
     ensures { result ≡ entry_number (count_told answer) }
 {
     match answer {
-        CountAnswer::Count(k) => k as u64,
-        CountAnswer::Refused(refusal) => refused(refusal),
+        Ok(k) => k as u64,
+        Err(refusal) => refused(refusal),
     }
 }
 

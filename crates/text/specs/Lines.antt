@@ -1,5 +1,5 @@
--- 01, "Judge, blanks, programs": "Fields are parted by one space, lines end in one line feed"; and a text put into a
--- buffer.
+-- SCOPE, "Judge, blanks, programs": "Fields are parted by one space, lines end in one line feed"; and a text put into
+-- a buffer.
 use Rattle.std.specs.Prelude.{ℕ, ◌+◌, ◌≡◌, List, [], ◌∷◌, ◌++◌, length}
 use Prim.Native.String.{String}
 use Rattle.std.proofs.lemmas.List.Edits.{sets}

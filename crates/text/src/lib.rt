@@ -5,17 +5,15 @@ ghost use Rattle.std.specs.Prelude.{◌+◌, ◌*◌, ◌≤◌, length};
 ghost use Rattle.lists.specs.Lists.{each};
 ghost use Rattle.text.specs.Lines.{field, line_of, Put};
 
+#[tactic(auto, using(lists::specs::Copies::part_is_sets))]
 // Puts a text at byte `at`; answers the place behind it.
 fn put_text(out: &mut [u8], at: usize, text: &[u8]) -> usize
     requires { at + length text.now ≤ length out.old }
     ensures { Put out.old at text.now out.new result }
 {
-    let mut i: usize = 0;
-    while i < text.len() {
-        out[at + i] = text[i];
-        i += 1;
-    }
-    at + i
+    let end = at + text.len();
+    out[at..end].copy_from_slice(text);
+    end
 }
 
 // Puts a space and a number in base ten, at most 21 bytes, at byte `at`; answers the place behind them.
@@ -37,10 +35,8 @@ fn put_numbers(out: &mut [u8], at: usize, numbers: &[u64]) -> usize
     ensures upper_bound { result ≤ at + 21 * length numbers.now }
 {
     let mut next = at;
-    let mut i: usize = 0;
-    while i < numbers.len() {
-        next = put_number(out, next, numbers[i]);
-        i += 1;
+    for &n in numbers {
+        next = put_number(out, next, n);
     }
     next
 }

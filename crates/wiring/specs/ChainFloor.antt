@@ -49,7 +49,7 @@ module _ (ch : Channel) (esc : Escapes ch) (l : Layout) (g : Good ch l) where
         let long = rest.2 in
         (here.upper_track, here.upper, omega arith)
 
--- 02, Req 02: "every good layout with at most one trunk piece per net has at least chain tracks"
+-- SCOPE, Req 02: "every good layout with at most one trunk piece per net has at least chain tracks"
 pub chain-floor : (ch : Channel) → Escapes ch → (l : Layout) → Good ch l → OneTrunkEach ch l → chain ch ≤ l.tracks
 chain-floor ch esc l g one = elim (dec_lt 0 (chain ch)) [ yes h ↦ reached h | no h ↦ omega arith ]
   where

@@ -1,4 +1,4 @@
--- 01, "Wiring rule": what is joined in a layout, when it is good, and which trunks are a net's.
+-- SCOPE, "Wiring rule": what is joined in a layout, when it is good, and which trunks are a net's.
 use Rattle.std.specs.Prelude.{ℕ, ◌≡◌, ◌↔◌}
 use mathlib.Core.List.{Memᴰ}
 use Rattle.std.proofs.Math.Option.{some}

@@ -1,4 +1,4 @@
--- 01, "Wiring rule": the pins of a channel, and the branches that a pin touches.
+-- SCOPE, "Wiring rule": the pins of a channel, and the branches that a pin touches.
 use Rattle.std.specs.Prelude.{ℕ, ◌+◌, ◌-◌, ◌<◌, Bool, cond, ◌&&◌, T, leb, ltb}
 use Rattle.lists.specs.Lists.{at}
 use Rattle.grid.specs.declared.Piece.{Piece}

@@ -24,20 +24,17 @@ returns-then-width-lt1 c =
       | then-width-lt1-via-else-width-lt1+else-width-gt-WIDEST+then-spare-eq1 w ↦ inr (inr w.if-spare-eq1.true)
     ]))
 
-pub first_bad-bad-requires : goal.first_bad-bad-requires
-first_bad-bad-requires c =
+pub first_bad-requires : goal.first_bad-requires
+first_bad-requires c =
     let s = small c.args.board.now c.header_of-width.result (c.header_of-width.ensures ∙ ap header_of c.word_at.ensures) in
     omega arith
 
-pub returns-then-bad-ne0 : goal.returns-then-bad-ne0
-returns-then-bad-ne0 c =
-    let bad = c.first_bad-bad.ensures in
-    rw bad
-    (sym (open-piece c.args.board.now c.header_of-width.result (c.header_of-width.ensures ∙ ap header_of c.word_at.ensures) c.if-board-due.false c.if-width-lt1.false
-    c.if-width-gt-WIDEST.false c.if-spare-eq1.false (λ e. c.if-bad-ne0.true (bad ∙ e))))
+pub returns-in-Some : goal.returns-in-Some
+returns-in-Some c =
+    sym (open-piece c.args.board.now c.header_of-width.result (c.header_of-width.ensures ∙ ap header_of c.word_at.ensures) c.if-board-due.false c.if-width-lt1.false
+    c.if-width-gt-WIDEST.false c.if-spare-eq1.false c.in-Some.ensures)
 
 pub returns : goal.returns
 returns c =
     sym (open-whole c.args.board.now c.header_of-width.result (c.header_of-width.ensures ∙ ap header_of c.word_at.ensures) c.if-board-due.false c.if-width-lt1.false
-    c.if-width-gt-WIDEST.false c.if-spare-eq1.false
-    (sym c.first_bad-bad.ensures ∙ c.if-bad-ne0.false))
+    c.if-width-gt-WIDEST.false c.if-spare-eq1.false c.in_default.ensures)

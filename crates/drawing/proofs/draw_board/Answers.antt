@@ -1,18 +1,21 @@
 use Prim.Native.Nat.{◌≤◌}
 use native.Mathlib.Omega.{arith}
-use mathlib.Core.Path.{◌∙◌, ap}
+use Rattle.drawing.specs.Code.{column_in}
+use mathlib.Core.Path.{◌≡◌, ◌∙◌, ap, sym}
 use lib.ListN.{length}
 use lib.Seq.{length-sets}
+use Rattle.grid.specs.Numbers.{column_numbers, column-at, track-at}
 use Rattle.channel.specs.Channel.{highest_net}
+use Rattle.channel.specs.Spans.{spans}
 use Rattle.channel.proofs.SpanningLaws.{highest-of}
 use Rattle.drawing.specs.Putting.{put-length, put_same, next-put, next-passed}
 use Rattle.drawing.proofs.CodeLaws.{spans→net, spans→none, spans→stands}
 use Rattle.drawing.proofs.CodeLaws.{drawing-begun, net-room, drawing-ended, drawing-done}
 use Rattle.drawing.proofs.draw_board.Goals as goal
-use Rattle.drawing.proofs.draw_board.Goals.{then-first-ne0, else-first-ne0}
+use Rattle.drawing.proofs.draw_board.Goals.{then-begin-ne0, else-begin-ne0}
 
 pub loop-n-init : goal.loop-n-init
-loop-n-init c = (omega arith, omega arith, drawing-begun _ _ _ c.requires.0)
+loop-n-init c = drawing-begun _ _ _ c.requires.0
 
 pub draw_net-count-requires : goal.draw_net-count-requires
 draw_net-count-requires c =
@@ -21,11 +24,12 @@ draw_net-count-requires c =
     let pre = c.requires in
     let inv = c.loop-n.invariant in
     let esc = pre.0.tracked.escapes in
-    let first = c.if-first-ne0.true in
+    let begins = column-at c.args.first.now c.loop-n.n in
+    let first : column_in (column_numbers c.args.first.now) c.loop-n.n ≡ 0 → ⊥ = λ z. c.if-begin-ne0.true (sym begins ∙ z) in
     let net = spans→net _ esc _ pre.1 _ low first in (
       pre.0.tracked.few,
-      spans→stands _ esc _ pre.1 _ low inv.0 first,
-      net-room _ _ _ pre.0 _ inv.2 inv.0 low net,
+      rw (← begins, ← column-at c.args.last.now c.loop-n.n) (spans→stands _ esc _ pre.1 _ low (omega arith) first),
+      rw (← track-at c.args.tracks.now c.loop-n.n) (net-room _ _ _ pre.0 _ inv (omega arith) low net),
     )
 
 pub loop-n-preserved : goal.loop-n-preserved
@@ -35,20 +39,18 @@ loop-n-preserved c =
     let pre = c.requires in
     let inv = c.loop-n.invariant in
     let esc = pre.0.tracked.escapes in
-    let net = spans→net _ esc c.args.spans pre.1 c.loop-n.n low in
-    let none = spans→none _ esc c.args.spans pre.1 c.loop-n.n low in (
-      omega arith,
-      omega arith,
-      elim c.if-first-ne0.branch [
-        | then-first-ne0 w ↦ put_same w.board-is w.count-is (next-put _ _ _ inv.0 inv.2 (net w.if-first-ne0.true) w.draw_net-count.ensures)
-        | else-first-ne0 w ↦ put_same w.board-is w.count-is (next-passed _ _ _ inv.0 inv.2 (none w.if-first-ne0.false))
-      ],
-    )
+    let begins = column-at c.args.first.now c.loop-n.n in
+    let net = spans→net _ esc (spans (column_numbers c.args.first.now) (column_numbers c.args.last.now)) pre.1 c.loop-n.n low in
+    let none = spans→none _ esc (spans (column_numbers c.args.first.now) (column_numbers c.args.last.now)) pre.1 c.loop-n.n low in
+    elim c.if-begin-ne0.branch [
+      | then-begin-ne0 w ↦ put_same w.board-is w.count-is (next-put _ _ _ (omega arith) inv (net (λ z. w.if-begin-ne0.true (sym begins ∙ z))) (rw (← track-at c.args.tracks.now c.loop-n.n) at w.draw_net-count.ensures))
+      | else-begin-ne0 w ↦ put_same w.board-is w.count-is (next-passed _ _ _ (omega arith) inv (none (begins ∙ w.if-begin-ne0.false)))
+    ]
 
 pub put_header-requires : goal.put_header-requires
 put_header-requires c =
     let high = highest-of _ c.requires.0.tracked.escapes _ _ c.highest_number-upper.ensures c.highest_number-highest.ensures in
-    let ended = drawing-ended _ _ _ c.requires.0 _ c.loop-n.invariant.2 high (omega arith) in
+    let ended = drawing-ended _ _ _ c.requires.0 _ c.loop-n.invariant high (omega arith) in
     let pre = c.requires in
     let narrow = pre.0.tracked.escapes.narrow in
     let low = pre.0.tracked.few in
@@ -60,21 +62,21 @@ put_header-requires c =
 pub shape_of-board : goal.shape_of-board
 shape_of-board c =
     let high = highest-of _ c.requires.0.tracked.escapes _ _ c.highest_number-upper.ensures c.highest_number-highest.ensures in
-    let ended = drawing-ended _ _ _ c.requires.0 _ c.loop-n.invariant.2 high (omega arith) in
+    let ended = drawing-ended _ _ _ c.requires.0 _ c.loop-n.invariant high (omega arith) in
     ap length c.put_header.ensures ∙ simp length-sets (put-length ended)
 
 pub returns : goal.returns
 returns c =
     let high = highest-of _ c.requires.0.tracked.escapes _ _ c.highest_number-upper.ensures c.highest_number-highest.ensures in
-    let ended = drawing-ended _ _ _ c.requires.0 _ c.loop-n.invariant.2 high (omega arith) in
+    let ended = drawing-ended _ _ _ c.requires.0 _ c.loop-n.invariant high (omega arith) in
     drawing-done _ _ _ c.requires.0 ended c.put_header.ensures
 
-pub bounds-firsts-i : goal.bounds-firsts-i
-bounds-firsts-i c =
+pub bounds-first-i : goal.bounds-first-i
+bounds-first-i c =
     let high = highest-of _ c.requires.0.tracked.escapes _ _ c.highest_number-upper.ensures c.highest_number-highest.ensures in
     omega (arith, high.low)
 
-pub overflow_add-n : goal.overflow_add-n
-overflow_add-n c =
+pub overflow_add-n-end : goal.overflow_add-n-end
+overflow_add-n-end c =
     let high = highest-of _ c.requires.0.tracked.escapes _ _ c.highest_number-upper.ensures c.highest_number-highest.ensures in
     omega (arith, high.low)

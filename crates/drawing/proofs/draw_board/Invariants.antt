@@ -1,9 +1,9 @@
 -- `draw_board` meets its contract. The loop's invariant: behind the header's place stand the pieces of the nets below
--- n. The numbers that are left fall. A number is a net exactly if its first column is not 0, and no net is above the
+-- n. A number is a net exactly if its first column is not 0, and no net is above the
 -- highest number of the rows, so in the end all nets are drawn, and the header in front makes the board file
 -- (`drawing-done`).
-use Prim.Native.Nat.{◌+◌, ◌-◌, ◌≤◌}
 use Rattle.lists.specs.Lists.{each}
+use Rattle.grid.specs.Numbers.{track_numbers}
 use Rattle.channel.specs.Channel.{Channel, rows, is_net}
 use Rattle.drawing.specs.Prefixes.{below}
 use Rattle.drawing.specs.Putting.{Put}
@@ -13,7 +13,4 @@ use Rattle.drawing.proofs.draw_board.Given as goal
 abbrev pub invariant-loop-n : goal.invariant-loop-n
 invariant-loop-n l =
     let ch : Channel = rows l.top l.bot in
-    (1 ≤ l.n) × (l.n ≤ l.highest + 1) × Put l.initial.board l.board 0 l.count (each (drawn_net ch l.tracks l.t) (below (is_net ch) l.n))
-
-abbrev pub decreases-loop-n : goal.decreases-loop-n
-decreases-loop-n l = l.highest + 1 - l.n
+    Put l.initial.board l.board 0 l.count (each (drawn_net ch (track_numbers l.tracks) l.t) (below (is_net ch) l.n))

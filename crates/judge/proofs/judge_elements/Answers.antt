@@ -37,16 +37,16 @@ find_fault-requires c = (
   c.join_on-2.ensures.1,
 )
 
-pub returns-in-Nothing : goal.returns-in-Nothing
-returns-in-Nothing c =
+pub returns-in-None : goal.returns-in-None
+returns-in-None c =
     let found = c.find_fault in
     let said = found-finding _ _ _ _ _ c.requires c.alone.ensures _ c.join_on.ensures.0 _ _
     c.join_on-2.ensures.0 c.flatten.ensures found.result found.ensures in
-    found_nothing _ _ (sym c.in-Nothing.is ∙ said)
+    found_nothing _ _ (sym c.in-None.is ∙ said)
 
-pub returns-in-Fault : goal.returns-in-Fault
-returns-in-Fault c =
+pub returns-in-Some : goal.returns-in-Some
+returns-in-Some c =
     let found = c.find_fault in
     let said = found-finding _ _ _ _ _ c.requires c.alone.ensures _ c.join_on.ensures.0 _ _
     c.join_on-2.ensures.0 c.flatten.ensures found.result found.ensures in
-    found-fault _ _ c.in-Fault.fault (sym c.in-Fault.is ∙ said)
+    found-fault _ _ c.in-Some.fault (sym c.in-Some.is ∙ said)

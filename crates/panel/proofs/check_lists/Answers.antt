@@ -1,13 +1,11 @@
--- `panel::check_lists` meets its contract: what the check of list one refuses is refused, and else it answers what the
--- check of list two does.
-use mathlib.Core.Path.{sym, ◌∙◌}
+-- What the check of list one refuses is refused, and else it answers what the check of list two does.
+use Rattle.std.proofs.Common.{◌∙◌}
+use Rattle.refusal.specs.ChainLaws.{handed-on}
 use Rattle.panel.proofs.AnswerLaws.{one-refused, one-accepted}
 use Rattle.panel.proofs.check_lists.Goals as goal
 
-pub returns-in-Refused : goal.returns-in-Refused
-returns-in-Refused c =
-    sym (one-refused _ _ (sym c.in-Refused.ensures))
+pub returns-in_err-check : goal.returns-in_err-check
+returns-in_err-check c = handed-on _ c.from_residual.ensures.1 ∙ one-refused _ _ c.in_err-check.ensures.answer
 
-pub returns-in-Accepted : goal.returns-in-Accepted
-returns-in-Accepted c =
-    c.check-in-Accepted.ensures ∙ sym (one-accepted _ _ (sym c.in-Accepted.ensures))
+pub returns : goal.returns
+returns c = c.check-2.ensures.answer ∙ one-accepted _ _ c.in_ok-check.ensures.answer

@@ -1,6 +1,6 @@
 -- `panel::join` meets its contract, by the laws of AnswerLaws: short rows are refused first, then what the check of the
 -- lists refuses, and else the answer is that of lists that each pass alone.
-use mathlib.Core.Path.{sym}
+use Rattle.refusal.specs.ChainLaws.{handed-on}
 use mathlib.Core.Logic.{inl, inr}
 use Rattle.panel.proofs.AnswerLaws.{join-short, join-lists, lists-pass, join-checked}
 use Rattle.panel.proofs.join.Goals as goal
@@ -17,14 +17,15 @@ returns-then-top-lt-ROW_TRAY c =
 
 pub join_checked-requires : goal.join_checked-requires
 join_checked-requires c =
-    let esc = lists-pass _ _ (sym c.in-Accepted.ensures) in
+    let esc = lists-pass _ _ c.in_ok-check_lists.ensures in
     (esc.0, esc.1, c.if-top-lt-ROW_TRAY.false, c.if-bot-lt-ROW_TRAY.false)
 
-pub returns-in-Refused : goal.returns-in-Refused
-returns-in-Refused c =
-    join-lists _ _ _ _ (c.if-top-lt-ROW_TRAY.false, c.if-bot-lt-ROW_TRAY.false) (sym c.in-Refused.ensures)
+pub returns-in_err-check_lists : goal.returns-in_err-check_lists
+returns-in_err-check_lists c =
+    rw (handed-on _ c.from_residual.ensures.1)
+    (join-lists _ _ _ _ (c.if-top-lt-ROW_TRAY.false, c.if-bot-lt-ROW_TRAY.false) c.in_err-check_lists.ensures)
 
-pub returns-in-Accepted : goal.returns-in-Accepted
-returns-in-Accepted c =
-    join-checked _ _ _ _ (c.if-top-lt-ROW_TRAY.false, c.if-bot-lt-ROW_TRAY.false) (sym c.in-Accepted.ensures)
+pub returns : goal.returns
+returns c =
+    join-checked _ _ _ _ (c.if-top-lt-ROW_TRAY.false, c.if-bot-lt-ROW_TRAY.false) c.in_ok-check_lists.ensures
     c.join_checked.ensures

@@ -9,17 +9,17 @@ use Rattle.programs.proofs.board_channel.Goals as goal
 pub put_unrouted-requires : goal.put_unrouted-requires
 put_unrouted-requires c =
     let told =
-    unrouted _ c.requires.0 (omega arith) (omega (arith, c.requires.1)) c.route_rows-routing.ensures c.in-Refused.is in
+    unrouted _ c.requires.0 (omega arith) (omega (arith, c.requires.1)) c.route_rows-routing.ensures c.in-Err.is in
     (told.few, omega arith, omega (arith, c.requires.1))
 
-pub returns-in-Refused-clause-put : goal.returns-in-Refused-clause-put
-returns-in-Refused-clause-put c =
+pub returns-in-Err-clause-put : goal.returns-in-Err-clause-put
+returns-in-Err-clause-put c =
     let told =
-    unrouted _ c.requires.0 (omega arith) (omega (arith, c.requires.1)) c.route_rows-routing.ensures c.in-Refused.is in
+    unrouted _ c.requires.0 (omega arith) (omega (arith, c.requires.1)) c.route_rows-routing.ensures c.in-Err.is in
     put_same (rw told.kept at c.put_unrouted.ensures.put) (told.output board_bytes)
 
-pub returns-in-Routed : goal.returns-in-Routed
-returns-in-Routed c =
+pub returns-in-Ok : goal.returns-in-Ok
+returns-in-Ok c =
     let told =
-    routed _ c.requires.0 (omega arith) (omega (arith, c.requires.1)) c.route_rows-routing.ensures c.in-Routed.is in
+    routed _ c.requires.0 (omega arith) (omega (arith, c.requires.1)) c.route_rows-routing.ensures c.in-Ok.is in
     record { put = told.put; upper_bound = omega (arith, told.few-pieces) }

@@ -7,20 +7,20 @@ use Rattle.programs.proofs.list_channel.Goals as goal
 
 pub put_unrouted-requires : goal.put_unrouted-requires
 put_unrouted-requires c =
-    let told = unrouted _ c.requires.0 (omega arith) (omega arith) c.route_rows-routing.ensures c.in-Refused.is in
+    let told = unrouted _ c.requires.0 (omega arith) (omega arith) c.route_rows-routing.ensures c.in-Err.is in
     (told.few, omega arith, omega (arith, c.requires.1))
 
 pub put_routed-requires : goal.put_routed-requires
 put_routed-requires c =
-    let told = routed _ c.requires.0 (omega arith) (omega arith) c.route_rows-routing.ensures c.in-Routed.is in
+    let told = routed _ c.requires.0 (omega arith) (omega arith) c.route_rows-routing.ensures c.in-Ok.is in
     (c.requires.0, told.few-tracks, told.few-records, c.requires.1)
 
-pub returns-in-Refused-clause-put : goal.returns-in-Refused-clause-put
-returns-in-Refused-clause-put c =
-    let told = unrouted _ c.requires.0 (omega arith) (omega arith) c.route_rows-routing.ensures c.in-Refused.is in
+pub returns-in-Err-clause-put : goal.returns-in-Err-clause-put
+returns-in-Err-clause-put c =
+    let told = unrouted _ c.requires.0 (omega arith) (omega arith) c.route_rows-routing.ensures c.in-Err.is in
     put_same c.put_unrouted.ensures.put (told.output listing)
 
-pub returns-in-Routed-clause-put : goal.returns-in-Routed-clause-put
-returns-in-Routed-clause-put c =
-    let told = routed _ c.requires.0 (omega arith) (omega arith) c.route_rows-routing.ensures c.in-Routed.is in
+pub returns-in-Ok-clause-put : goal.returns-in-Ok-clause-put
+returns-in-Ok-clause-put c =
+    let told = routed _ c.requires.0 (omega arith) (omega arith) c.route_rows-routing.ensures c.in-Ok.is in
     put_same c.put_routed.ensures.put told.listed

@@ -7,12 +7,12 @@ pub returns-then-text-gt-INPUT_LIMIT : goal.returns-then-text-gt-INPUT_LIMIT
 returns-then-text-gt-INPUT_LIMIT c =
     told-fails (over-refused _ c.if-text-gt-INPUT_LIMIT.true c.put_over.ensures.put c.put_over.ensures.upper_bound)
 
-pub returns-in-Refused : goal.returns-in-Refused
-returns-in-Refused c =
+pub returns-in-Err : goal.returns-in-Err
+returns-in-Err c =
     told-fails
-    (text-refused _ c.if-text-gt-INPUT_LIMIT.false (omega arith) (omega arith) c.read.ensures c.in-Refused.is
+    (text-refused _ c.if-text-gt-INPUT_LIMIT.false (omega arith) (omega arith) c.read.ensures c.in-Err.is
     c.put_refusal.ensures.put c.put_refusal.ensures.upper_bound)
 
-pub returns-in-Width : goal.returns-in-Width
-returns-in-Width c =
-    told-read (read-rows _ c.if-text-gt-INPUT_LIMIT.false (omega arith) (omega arith) c.read.ensures c.in-Width.is)
+pub returns-in-Ok : goal.returns-in-Ok
+returns-in-Ok c =
+    told-read (read-rows _ c.if-text-gt-INPUT_LIMIT.false (omega arith) (omega arith) c.read.ensures c.in-Ok.is)

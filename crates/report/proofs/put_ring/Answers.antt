@@ -8,16 +8,16 @@ use Rattle.report.proofs.put_ring.Goals as goal
 
 pub loop-i-init : goal.loop-i-init
 unfolding ring_text each from
-loop-i-init c = (omega arith, record { place = omega arith; stored = refl }, omega arith, refl)
+loop-i-init c = (record { place = omega arith; stored = refl }, omega arith)
 
 pub loop-i-preserved : goal.loop-i-preserved
 loop-i-preserved c =
     let one = ring-more c.args.ring.now c.loop-i.i in
-    (omega arith, put_same (put_then c.loop-i.invariant.1 c.put_pair-next.ensures.put) (sym one), omega arith, omega arith)
+    (put_same (put_then c.loop-i.invariant.0 c.put_pair-next.ensures.put) (sym one), omega arith)
 
 pub returns-clause-put : goal.returns-clause-put
 returns-clause-put c =
     let a = c.args in
     let inv = c.loop-i.invariant in
     let end : c.loop-i.i ≡ a.pairs = omega arith in
-    rw end at inv.1
+    rw end at inv.0

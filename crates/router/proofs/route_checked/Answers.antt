@@ -20,4 +20,4 @@ pub returns-in-Placed : goal.returns-in-Placed
 returns-in-Placed c =
     let nets = c.fill_nets-filled.ensures in
     routed-held _ _ _ c.requires.1 c.requires.2 c.requires.0 nets c.in-Placed.is
-    nets.spans refl c.draw_board-pieces.ensures c.make_records-table.ensures refl
+    refl c.draw_board-pieces.ensures c.make_records-table.ensures refl

@@ -1,11 +1,11 @@
 -- `counted` meets its contract: a count is told as itself, and a refusal as every refusal.
-use Rattle.draft.specs.Answers.{count_told}
+use Rattle.refusal.specs.Refusals.{told}
 use Rattle.screen_api.proofs.DraftLaws.{count-number}
 use Rattle.screen_api.proofs.counted.Goals as goal
 
-pub returns-in-Count : goal.returns-in-Count
-returns-in-Count c = count-number c.requires c.in-Count.is
+pub returns-in-Ok : goal.returns-in-Ok
+returns-in-Ok c = count-number c.requires c.in-Ok.is
 
-pub returns-in-Refused : goal.returns-in-Refused
-unfolding count_told
-returns-in-Refused c = rw c.in-Refused.is c.refused.ensures
+pub returns-in-Err : goal.returns-in-Err
+unfolding told
+returns-in-Err c = rw c.in-Err.is c.refused.ensures

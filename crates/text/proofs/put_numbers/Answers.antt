@@ -6,15 +6,11 @@ use Rattle.text.specs.Lines.{field}
 use Rattle.text.specs.PutLaws.{put_then, put_same}
 use Rattle.text.proofs.put_numbers.Goals as goal
 
-pub loop-i-init : goal.loop-i-init
+pub loop-n-init : goal.loop-n-init
 unfolding each
-loop-i-init c = (omega arith, record { place = omega arith; stored = refl }, omega arith, refl)
+loop-n-init c = (record { place = omega arith; stored = refl }, omega arith)
 
-pub loop-i-preserved : goal.loop-i-preserved
-loop-i-preserved c =
-    let one = each_take field c.args.numbers.now c.loop-i.i 0 (omega arith) in (
-      omega arith,
-      put_same (put_then c.loop-i.invariant.1 c.put_number-next.ensures.put) (sym one),
-      omega arith,
-      omega arith,
-    )
+pub loop-n-preserved : goal.loop-n-preserved
+loop-n-preserved c =
+    let one = each_take field c.args.numbers.now c.loop-n.n-index 0 (omega arith) in
+    (put_same (put_then c.loop-n.invariant.0 c.put_number-next.ensures.put) (sym one), omega arith)

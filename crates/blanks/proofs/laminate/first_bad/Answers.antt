@@ -7,32 +7,25 @@ use Rattle.blanks.proofs.laminate.first_bad.Goals as goal
 
 pub loop-i-init : goal.loop-i-init
 unfolding at
-loop-i-init c = (omega arith, refl, λ k l. absurd (omega arith))
+loop-i-init c = record { last = refl; sound = λ k l. absurd (omega arith) }
 
 pub returns-then-entry-before : goal.returns-then-entry-before
 returns-then-entry-before c =
-    let table = c.args.table.now in
-    let i = c.loop-i.i in
-    let last = c.loop-i.invariant.1 in
-    let entry = at_suc table i in
-    bad-found table i (omega arith) c.loop-i.invariant.2 (λ s.
+    let entry = at_suc c.args.table.now c.loop-i.i in
+    bad-found _ c.loop-i.i (omega arith) c.loop-i.invariant.sound (λ s.
     let above = s.above in
     let few = s.few in
+    let last = c.loop-i.invariant.last in
     ⊎_elim (λ w. omega arith) (λ w. omega arith) c.then-entry-before.either)
 
 pub loop-i-preserved : goal.loop-i-preserved
 loop-i-preserved c =
-    let table = c.args.table.now in
-    let i = c.loop-i.i in
-    let last = c.loop-i.invariant.1 in
-    let entry = at_suc table i in (
-      omega arith,
-      sym (at_next table i),
-      below_more _ _ c.loop-i.invariant.2 (record {
-        above = omega arith;
-        few = omega arith;
-      }),
-    )
+    let last = c.loop-i.invariant.last in
+    let entry = at_suc c.args.table.now c.loop-i.i in
+    record {
+      last = sym (at_next _ c.loop-i.i);
+      sound = below_more _ _ c.loop-i.invariant.sound (record { above = omega arith; few = omega arith });
+    }
 
 pub returns : goal.returns
-returns c = none-bad _ (λ k l. c.loop-i.invariant.2 k (omega arith))
+returns c = none-bad _ (λ k l. c.loop-i.invariant.sound k (omega arith))

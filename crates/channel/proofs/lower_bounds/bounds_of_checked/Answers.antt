@@ -1,7 +1,6 @@
 -- Rows without parked pins show nets only (`none-parked`), which is what `bounds_of_nets` asks. With the parked pins
 -- removed (`left-rows`) they do too, and have the same density and chain (`density-shown`, `chain-shown`).
 use Rattle.std.proofs.Common.{sym, ◌∙◌, ap, ap₂}
-use Rattle.channel.specs.declared.BoundsAnswer.TheVariants as answers
 use Rattle.channel.specs.Channel.{rows}
 use Rattle.channel.specs.Density.{density}
 use Rattle.channel.specs.Constraints.{chain}
@@ -22,4 +21,4 @@ returns c =
     let ch = rows c.args.top.now c.args.bot.now in
     let alike = left-rows ch c.requires c.remove_parked.ensures in
     c.bounds_of_nets-2.ensures
-    ∙ ap₂ answers.Bounds (ap density alike ∙ density-shown ch) (ap chain alike ∙ chain-shown ch)
+    ∙ ap₂ (λ d k. record { density = d; chain = k }) (ap density alike ∙ density-shown ch) (ap chain alike ∙ chain-shown ch)

@@ -4,11 +4,11 @@ use Rattle.channel.proofs.OnceLaws.{once-at, none-once}
 use Rattle.channel.proofs.parked.any_once.Goals as goal
 
 pub bounds-counts-n : goal.bounds-counts-n
-bounds-counts-n c = let h = none-high _ c.requires c.loop-i.i c.loop-i-test.true in omega arith
+bounds-counts-n c = let h = none-high _ c.requires c.loop-n.n-index c.loop-n-test.true in omega arith
 
 pub returns-then-counts-n-eq1 : goal.returns-then-counts-n-eq1
 returns-then-counts-n-eq1 c =
-    once-at c.args.counts.now c.args.row.now c.loop-i.i c.loop-i-test.true c.if-counts-n-eq1.true
+    once-at c.args.counts.now c.args.row.now c.loop-n.n-index c.loop-n-test.true c.if-counts-n-eq1.true
 
 pub returns : goal.returns
-returns c = none-once c.args.counts.now c.args.row.now c.loop-i.i (omega arith) c.loop-i.invariant.1
+returns c = none-once c.args.counts.now c.args.row.now c.loop-n.n-index (omega arith) c.loop-n.invariant

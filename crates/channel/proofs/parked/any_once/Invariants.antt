@@ -1,9 +1,6 @@
--- The loop's invariant: no number before i is counted just once. What is left of the row falls.
-use Rattle.std.proofs.Common.{ℕ, ◌≤◌, ◌<◌, ◌-◌, ◌≡◌, length, get_or}
+-- The loop's invariant: no number before this one is counted just once.
+use Rattle.std.proofs.Common.{ℕ, ◌<◌, ◌≡◌, get_or}
 use Rattle.channel.proofs.parked.any_once.Given as goal
 
-abbrev pub invariant-loop-i : goal.invariant-loop-i
-invariant-loop-i l = (l.i ≤ length l.row) × ((k : ℕ) → k < l.i → get_or l.counts (get_or l.row k 0) 0 ≡ 1 → ⊥)
-
-abbrev pub decreases-loop-i : goal.decreases-loop-i
-decreases-loop-i l = length l.row - l.i
+abbrev pub invariant-loop-n : goal.invariant-loop-n
+invariant-loop-n l = (k : ℕ) → k < l.n-index → get_or l.counts (get_or l.row k 0) 0 ≡ 1 → ⊥

@@ -1,12 +1,16 @@
 -- Each test leads to the answer that the chain of refusals gives at it, by the law of that answer, and what is known past
 -- the test is one of `Narrow`, `Even`, `Low`.
-use Rattle.std.proofs.Common.{ℕ, ◌+◌, ◌≡◌, ◌≢◌, ◌≤◌, arith, sym, ◌∙◌, ap, inl, inr, length}
+use Rattle.std.proofs.Common.{ℕ, ◌+◌, ◌≡◌, ◌≢◌, ◌≤◌, arith, sym, ◌∙◌, ap, inl, inr, length, Ok, Err, refl}
+use Rattle.refusal.specs.declared.Refusal.{Refusal}
+use Rattle.refusal.specs.declared.Refusal.TheVariants.{HighNet}
 use Rattle.channel.specs.Channel.{Channel, rows, widest}
-use Rattle.channel.specs.RowLaws.{first-high-left, first-high-right, first-high-most}
+use Rattle.channel.specs.Answers.{Escapes, rows_answer}
+use Rattle.channel.specs.RowLaws.{found-high, found-no-high, first-high-left, first-high-right}
 use Rattle.channel.specs.AnswerLaws.{Narrow, Even, answer-wide, answer-uneven, answer-high, answer-accepted}
+use Rattle.channel.proofs.BoundLaws.{accepted→escapes, escapes→accepted}
 use Rattle.channel.proofs.rows.check.Goals as goal
-use Rattle.channel.proofs.rows.check.Goals.{then-a-gt-WIDEST-via-then-a-gt-WIDEST, then-a-b-2, else-a-b-2}
-use Rattle.channel.proofs.rows.check.Goals.{then-a-gt-WIDEST-via-else-a-gt-WIDEST+then-b-gt-WIDEST}
+use Rattle.channel.proofs.rows.check.Goals.{In-Some, In-Some-first_high, In_default-first_high}
+use Rattle.channel.proofs.rows.check.Goals.{then-a-gt-WIDEST-via-then-a-gt-WIDEST, then-a-gt-WIDEST-via-else-a-gt-WIDEST+then-b-gt-WIDEST}
 
 narrow : (ch : Channel) → length ch.top ≤ widest → length ch.bot ≤ widest → Narrow ch
 narrow ch a b = record { top-narrow = a; bot-narrow = b }
@@ -15,52 +19,69 @@ even : (ch : Channel) → length ch.top ≤ widest → length ch.bot ≤ widest 
     → length ch.top ≢ 0 → Even ch
 even ch a b same filled = record { narrow = narrow ch a b; same = same; filled = filled }
 
-pub returns-then-a-gt-WIDEST : goal.returns-then-a-gt-WIDEST
-returns-then-a-gt-WIDEST c =
-    answer-wide (rows c.args.top.now c.args.bot.now) (elim c.then-a-gt-WIDEST.branch [
+pub returns-then-a-gt-WIDEST-clause-answer : goal.returns-then-a-gt-WIDEST-clause-answer
+returns-then-a-gt-WIDEST-clause-answer c =
+    answer-wide _ (elim c.then-a-gt-WIDEST.branch [
       | then-a-gt-WIDEST-via-then-a-gt-WIDEST w ↦ inl w.if-a-gt-WIDEST.true
       | then-a-gt-WIDEST-via-else-a-gt-WIDEST+then-b-gt-WIDEST w ↦ inr w.if-b-gt-WIDEST.true
     ])
 
-pub returns-then-a-b : goal.returns-then-a-b
-returns-then-a-b c =
-    let ch = rows c.args.top.now c.args.bot.now in
-    answer-uneven ch (narrow ch c.if-a-gt-WIDEST.false c.if-b-gt-WIDEST.false) (inl c.if-a-b.true) _
-    (elim c.if-a-b-2.branch [
-      | then-a-b-2 w ↦ (let l = w.if-a-b-2.true in let e = w.shorter-is in omega arith)
-      | else-a-b-2 w ↦ (let l = w.if-a-b-2.false in let e = w.shorter-is in omega arith)
-    ])
+pub returns-then-a-b-clause-answer : goal.returns-then-a-b-clause-answer
+returns-then-a-b-clause-answer c =
+    answer-uneven _ (narrow _ c.if-a-gt-WIDEST.false c.if-b-gt-WIDEST.false) (inl c.if-a-b.true) _ (omega arith)
 
-pub returns-then-a-eq0 : goal.returns-then-a-eq0
-returns-then-a-eq0 c =
-    let ch = rows c.args.top.now c.args.bot.now in
-    answer-uneven ch (narrow ch c.if-a-gt-WIDEST.false c.if-b-gt-WIDEST.false) (inr c.if-a-eq0.true) 1 (omega arith)
+pub returns-then-a-eq0-clause-answer : goal.returns-then-a-eq0-clause-answer
+returns-then-a-eq0-clause-answer c =
+    answer-uneven _ (narrow _ c.if-a-gt-WIDEST.false c.if-b-gt-WIDEST.false) (inr c.if-a-eq0.true) _ (omega arith)
 
-pub returns-then-high-ne0 : goal.returns-then-high-ne0
-returns-then-high-ne0 c =
-    let ch = rows c.args.top.now c.args.bot.now in
-    let high = c.first_high-high.ensures in
-    answer-high ch (even ch c.if-a-gt-WIDEST.false c.if-b-gt-WIDEST.false c.if-a-b.false c.if-a-eq0.false) _
-    (first-high-left ch.top ch.bot (λ z. c.if-high-ne0.true (high ∙ z)) ∙ sym high) c.if-high-ne0.true
+-- what is refused does not escape
+refused : (ch : Channel) {r : Refusal} → Err r ≡ rows_answer ch → Escapes ch → ⊥
+refused ch e esc = let ok = escapes→accepted ch esc in cc
 
-pub overflow_add-result-then-low-ne0 : goal.overflow_add-result-then-low-ne0
-overflow_add-result-then-low-ne0 c =
-    omega (arith, c.first_high-low.ensures, first-high-most c.args.bot.now)
+-- a high number on top; and none there, but one below
+module _ (c : In-Some) where
+  top-high : Err (HighNet c.in-Some.place) ≡ rows_answer (rows c.args.top.now c.args.bot.now)
+  top-high =
+      let h = found-high _ c.in-Some.ensures in
+      answer-high _ (even _ c.if-a-gt-WIDEST.false c.if-b-gt-WIDEST.false c.if-a-b.false c.if-a-eq0.false) (first-high-left _ _ h.some ∙ h.first) (λ z. h.some (h.first ∙ z))
 
-pub returns-then-low-ne0 : goal.returns-then-low-ne0
-returns-then-low-ne0 c =
-    let ch = rows c.args.top.now c.args.bot.now in
-    let high = c.first_high-low.ensures in
-    let some = c.if-low-ne0.true in
-    answer-high ch (even ch c.if-a-gt-WIDEST.false c.if-b-gt-WIDEST.false c.if-a-b.false c.if-a-eq0.false) _
-    (first-high-right ch.top ch.bot (sym c.first_high-high.ensures ∙ c.if-high-ne0.false) (λ z. some (high ∙ z))
-    ∙ ap (λ (k : ℕ). length ch.top + k) (sym high)) (λ z. some (omega arith))
+module _ (c : In-Some-first_high) where
+  bot-high : Err (HighNet (length c.args.top.now + c.in-Some-first_high.place)) ≡ rows_answer (rows c.args.top.now c.args.bot.now)
+  bot-high =
+      let h = found-high _ c.in-Some-first_high.ensures in
+      answer-high _ (even _ c.if-a-gt-WIDEST.false c.if-b-gt-WIDEST.false c.if-a-b.false c.if-a-eq0.false)
+      (first-high-right _ _ (found-no-high _ c.in_default.ensures) h.some ∙ ap (λ (k : ℕ). length c.args.top.now + k) h.first)
+      (λ z. h.some (h.first ∙ omega arith))
 
-pub returns : goal.returns
-returns c =
-    let ch = rows c.args.top.now c.args.bot.now in
-    answer-accepted ch (record {
-      even = even ch c.if-a-gt-WIDEST.false c.if-b-gt-WIDEST.false c.if-a-b.false c.if-a-eq0.false;
-      top-low = sym c.first_high-high.ensures ∙ c.if-high-ne0.false;
-      bot-low = sym c.first_high-low.ensures ∙ c.if-low-ne0.false;
+pub returns-in-Some-clause-answer : goal.returns-in-Some-clause-answer
+returns-in-Some-clause-answer c = top-high (goal.at.returns-in-Some-clause-answer c).In-Some
+
+pub returns-in-Some-clause-accepted : goal.returns-in-Some-clause-accepted
+returns-in-Some-clause-accepted c =
+    (λ e. cc, λ esc. absurd (refused _ (top-high (goal.at.returns-in-Some-clause-accepted c).In-Some) esc))
+
+pub overflow_add-result-in-Some-first_high : goal.overflow_add-result-in-Some-first_high
+overflow_add-result-in-Some-first_high c =
+    let inside = (found-high _ c.in-Some-first_high.ensures).inside in omega arith
+
+pub returns-in-Some-first_high-clause-answer : goal.returns-in-Some-first_high-clause-answer
+returns-in-Some-first_high-clause-answer c = bot-high (goal.at.returns-in-Some-first_high-clause-answer c).In-Some-first_high
+
+pub returns-in-Some-first_high-clause-accepted : goal.returns-in-Some-first_high-clause-accepted
+returns-in-Some-first_high-clause-accepted c =
+    (λ e. cc, λ esc. absurd (refused _ (bot-high (goal.at.returns-in-Some-first_high-clause-accepted c).In-Some-first_high) esc))
+
+accept : (c : In_default-first_high) → Ok tt ≡ rows_answer (rows c.args.top.now c.args.bot.now)
+accept c =
+    answer-accepted _ (record {
+      even = even _ c.if-a-gt-WIDEST.false c.if-b-gt-WIDEST.false c.if-a-b.false c.if-a-eq0.false;
+      top-low = found-no-high _ c.in_default.ensures;
+      bot-low = found-no-high _ c.in_default-first_high.ensures;
     })
+
+pub returns-clause-answer : goal.returns-clause-answer
+returns-clause-answer c = accept (goal.at.returns-clause-answer c).In_default-first_high
+
+pub returns-clause-accepted : goal.returns-clause-accepted
+returns-clause-accepted c =
+    (λ e. accepted→escapes _ (sym (accept (goal.at.returns-clause-accepted c).In_default-first_high)), λ esc. refl)

@@ -1,56 +1,62 @@
-use Rattle.std.proofs.Common.{ℕ, ◌+◌, ◌≤◌, ◌<◌, ◌≡◌, length, get_or, arith, ◌∙◌, ap₂, lt-ltb, le-ltb}
+use Rattle.std.proofs.Common.{ℕ, ◌+◌, ◌-◌, ◌≤◌, ◌<◌, ◌≡◌, length, get_or, arith, ◌∙◌, ap₂, lt-ltb, le-ltb}
 use Rattle.lists.specs.Lists.{up_to, at}
 use Rattle.lists.specs.Places.{length_from, place-from, at_place}
 use Rattle.lists.specs.Collects.{collected-none, collected-few, collected-takes, collected-skips}
 use Rattle.lists.specs.Collects.{collected-all}
+use Rattle.grid.specs.Numbers.{column-at}
 use Rattle.channel.specs.Channel.{rows}
 use Rattle.channel.proofs.SpanningLaws.{spans_to, highest-of, spanning-numbers}
 use Rattle.channel.proofs.spanning.list_spanning.Goals as goal
-use Rattle.channel.proofs.spanning.list_spanning.Goals.{In-loop-n}
+use Rattle.channel.proofs.spanning.list_spanning.Goals.{In-loop-n, then-first-n, else-first-n}
 
 -- there is a place for each number up to it
 room_for : (h k : ℕ) → h ≤ 511 → k ≡ 512 → length (up_to h) ≤ k
 room_for h k l e = omega (arith, length_from 1 h)
 
--- the number that a turn looks at is the next one, and one of the tables; no more are counted than were looked at
+-- the number that a turn looks at is one of the tables; no more are counted than were looked at
 record Turn (h n count : ℕ) : Type 0 where
-  low : n + 1 < 512
+  low : n < 512
   free : count < 512
-  ahead : n < length (up_to h)
-  number : get_or (up_to h) n 0 ≡ n + 1
+  ahead : n - 1 < length (up_to h)
+  number : get_or (up_to h) (n - 1) 0 ≡ n
+  next : n - 1 + 1 ≡ n + 1 - 1
 
-ahead_of : (h n : ℕ) → n < h → n < length (up_to h)
-ahead_of h n l = omega (arith, length_from 1 h)
+ahead_of : (h n : ℕ) → 1 ≤ n → n < h + 1 → n - 1 < length (up_to h)
+ahead_of h n k l = omega (arith, length_from 1 h)
 
-turn-of : (h n count : ℕ) → n < h → h ≤ 511 → count ≤ n → Turn h n count
+turn-of : (h n count : ℕ) → 1 ≤ n → n < h + 1 → h ≤ 511 → count ≤ n - 1 → Turn h n count
 unfolding at
-turn-of h n count l most k =
+turn-of h n count one l most k =
     record {
       low = omega arith;
       free = omega arith;
-      ahead = ahead_of h n l;
-      number = at_place (up_to h) n (place-from 1 h n (omega arith)) ∙ omega arith;
+      ahead = ahead_of h n one l;
+      number = at_place (up_to h) (n - 1) (place-from 1 h (n - 1) (omega arith)) ∙ omega arith;
+      next = omega arith;
     }
-
-all_of : (h n : ℕ) → h ≤ n → length (up_to h) ≤ n
-all_of h n l = omega (arith, length_from 1 h)
 
 turn : (c : In-loop-n) → Turn c.highest_number-highest.result c.loop-n.n c.loop-n.count
 turn c =
     let h = c.highest_number-highest.result in
-    turn-of h c.loop-n.n c.loop-n.count c.loop-n-test.true
+    turn-of h c.loop-n.n c.loop-n.count (omega arith) c.loop-n-test.true
     (highest-of (rows c.args.top.now c.args.bot.now) c.requires.0.escapes _ _ c.highest_number-upper.ensures
     c.highest_number-highest.ensures).low
-    (collected-few _ _ _ _ _ _ c.loop-n.invariant (ahead_of h c.loop-n.n c.loop-n-test.true))
+    (collected-few _ _ _ _ _ _ c.loop-n.invariant (ahead_of h c.loop-n.n (omega arith) c.loop-n-test.true))
 
 pub loop-n-init : goal.loop-n-init
 loop-n-init c = collected-none _ _ _
 
 pub bounds-first-n : goal.bounds-first-n
-bounds-first-n c = (turn (goal.at.bounds-first-n c).In-loop-n).low
+bounds-first-n c =
+    let high = highest-of (rows c.args.top.now c.args.bot.now) c.requires.0.escapes _ _ c.highest_number-upper.ensures
+    c.highest_number-highest.ensures in
+    omega (arith, high.low, c.loop-n-test.true)
 
 pub bounds-last-n : goal.bounds-last-n
-bounds-last-n c = (turn (goal.at.bounds-last-n c).In-loop-n).low
+bounds-last-n c =
+    let high = highest-of (rows c.args.top.now c.args.bot.now) c.requires.0.escapes _ _ c.highest_number-upper.ensures
+    c.highest_number-highest.ensures in
+    omega (arith, high.low, c.loop-n-test.true)
 
 pub bounds-items-count : goal.bounds-items-count
 bounds-items-count c =
@@ -59,18 +65,18 @@ bounds-items-count c =
     let k = c.requires.3 in
     omega arith
 
-pub loop-n-preserved-then-first-n : goal.loop-n-preserved-then-first-n
-loop-n-preserved-then-first-n c =
-    let k = turn (goal.at.loop-n-preserved-then-first-n c).In-loop-n in
-    let high = highest-of (rows c.args.top.now c.args.bot.now) c.requires.0.escapes _ _ c.highest_number-upper.ensures
-    c.highest_number-highest.ensures in
-    rw k.number at (collected-takes _ _ _ _ _ _ c.loop-n.invariant k.ahead (room_for _ _ high.low c.requires.3)
-    (rw k.number (lt-ltb _ _ c.if-first-n.true)))
-
 pub loop-n-preserved : goal.loop-n-preserved
 loop-n-preserved c =
     let k = turn (goal.at.loop-n-preserved c).In-loop-n in
-    collected-skips _ _ _ _ _ _ c.loop-n.invariant k.ahead (rw k.number (le-ltb _ _ c.if-first-n.false))
+    let high = highest-of (rows c.args.top.now c.args.bot.now) c.requires.0.escapes _ _ c.highest_number-upper.ensures
+    c.highest_number-highest.ensures in
+    elim c.if-first-n.branch [
+      | then-first-n w ↦ rw (w.count-is, w.items-is, ← k.next) (rw k.number at (collected-takes _ _ _ _ _ _
+          c.loop-n.invariant k.ahead (room_for _ _ high.low c.requires.3)
+          (rw (k.number, column-at c.args.first.now, column-at c.args.last.now) (lt-ltb _ _ w.if-first-n.true))))
+      | else-first-n w ↦ rw (w.count-is, w.items-is, ← k.next) (collected-skips _ _ _ _ _ _ c.loop-n.invariant k.ahead
+          (rw (k.number, column-at c.args.first.now, column-at c.args.last.now) (le-ltb _ _ w.if-first-n.false)))
+    ]
 
 pub returns : goal.returns
 returns c =
@@ -79,4 +85,5 @@ returns c =
     let h = c.highest_number-highest.result in
     let high = highest-of ch p.0.escapes _ _ c.highest_number-upper.ensures c.highest_number-highest.ensures in
     let e = ap₂ (λ first last. spans_to first last h) p.1 p.2 ∙ spanning-numbers ch p.0.escapes high in
-    rw e at (collected-all _ _ _ _ _ _ (all_of h _ c.loop-n-test.false) c.loop-n.invariant)
+    let past : h ≤ c.loop-n.n - 1 = omega arith in
+    rw e at (collected-all _ _ _ _ _ _ (omega (arith, length_from 1 h)) c.loop-n.invariant)

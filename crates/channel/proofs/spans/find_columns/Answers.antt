@@ -1,6 +1,8 @@
 -- At the end the first i columns are all of them, and number 0, which is no net's, is cleared (`firsts-whole`,
 -- `lasts-whole`).
-use Rattle.std.proofs.Common.{◌≡◌, arith, sym, ◌∙◌}
+use Rattle.std.proofs.Common.{◌≡◌, arith, sym, ap, ◌∙◌}
+use Rattle.grid.specs.Pieces.{column}
+use Rattle.grid.specs.Numbers.{column_numbers, column-set, columns-none}
 use Rattle.lists.specs.Ends.{at_next}
 use Rattle.channel.specs.Channel.{width, rows}
 use Rattle.channel.proofs.EscapeLaws.{top-low, bot-low}
@@ -8,7 +10,7 @@ use Rattle.channel.proofs.NoteLaws.{firsts-none, lasts-none, firsts-whole, lasts
 use Rattle.channel.proofs.spans.find_columns.Goals as goal
 
 pub loop-i-init : goal.loop-i-init
-loop-i-init c = (omega arith, c.requires.1 ∙ firsts-none _, c.requires.2 ∙ lasts-none _)
+loop-i-init c = (ap column_numbers c.requires.1 ∙ (columns-none ∙ firsts-none _), ap column_numbers c.requires.2 ∙ (columns-none ∙ lasts-none _))
 
 pub note-requires : goal.note-requires
 note-requires c = top-low (rows c.args.top.now c.args.bot.now) c.loop-i.i c.requires.0.escapes
@@ -27,9 +29,8 @@ loop-i-preserved c =
     let bot = sym (at_next ch.bot l.i) in
     let t = top-low ch l.i esc in
     let b = bot-low ch l.i esc in (
-      omega arith,
-      rw (two.0, one.0, l.invariant.1) (firsts-noted ch l.i _ _ top bot (omega arith) (omega arith)),
-      rw (two.1, one.1, l.invariant.2) (lasts-noted ch l.i _ _ top bot (omega arith) (omega arith)),
+      rw (two.0, one.0, l.invariant.0) (firsts-noted ch l.i _ _ top bot (omega arith) (omega arith)),
+      rw (two.1, one.1, l.invariant.1) (lasts-noted ch l.i _ _ top bot (omega arith) (omega arith)),
     )
 
 pub returns : goal.returns
@@ -37,6 +38,6 @@ returns c =
     let l = c.loop-i in
     let ch = rows c.args.top.now c.args.bot.now in
     let all : l.i ≡ width ch = omega arith in (
-      rw (l.invariant.1, all) (firsts-whole ch c.requires.0),
-      rw (l.invariant.2, all) (lasts-whole ch c.requires.0),
+      rw (column-set l.first 0 (column 0), l.invariant.0, all) (firsts-whole ch c.requires.0),
+      rw (column-set l.last 0 (column 0), l.invariant.1, all) (lasts-whole ch c.requires.0),
     )

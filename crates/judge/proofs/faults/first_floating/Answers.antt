@@ -7,7 +7,7 @@ use Rattle.judge.proofs.FaultStepsLaws.{first-floating, none-floating}
 use Rattle.judge.proofs.faults.first_floating.Goals as goal
 
 pub loop-i-init : goal.loop-i-init
-loop-i-init c = (omega arith, omega arith, λ k l b. absurd (omega arith))
+loop-i-init c = λ k l b. absurd (omega arith)
 
 pub overflow_cast-root : goal.overflow_cast-root
 overflow_cast-root c = omega (arith, c.low-root.type_inv)
@@ -25,7 +25,7 @@ returns-then-high-eq0 c =
     let size = marks-length s in
     first-floating (marks_in s) a.base (owners_in s) turn.i (omega arith) (omega arith)
     (owner_at s turn.i (omega arith) c.low-root.ensures c.high.ensures
-    ∙ c.if-high-eq0.true) turn.invariant.2
+    ∙ c.if-high-eq0.true) turn.invariant
 
 pub loop-i-preserved : goal.loop-i-preserved
 loop-i-preserved c =
@@ -33,11 +33,11 @@ loop-i-preserved c =
     let turn = c.loop-i in
     let owner = owner_at a.scratch.now turn.i (omega arith) c.low-root.ensures
     c.high.ensures in
-    (omega arith, omega arith, below_more _ _ turn.invariant.2 (λ b z. c.if-high-eq0.false (sym owner ∙ z)))
+    below_more _ _ turn.invariant (λ b z. c.if-high-eq0.false (sym owner ∙ z))
 
 pub returns : goal.returns
 returns c =
     let a = c.args in
     let s = a.scratch.now in
     let size = marks-length s in
-    none-floating (marks_in s) a.base (owners_in s) (λ k l. c.loop-i.invariant.2 k (omega arith))
+    none-floating (marks_in s) a.base (owners_in s) (λ k l. c.loop-i.invariant k (omega arith))

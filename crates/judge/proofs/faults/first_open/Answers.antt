@@ -1,6 +1,6 @@
 use Prim.Native.Nat.{ℕ, ◌+◌, ◌<◌}
 use native.Mathlib.Omega.{arith}
-use mathlib.Core.Path.{◌≡◌, sym, ◌∙◌, subst}
+use mathlib.Core.Path.{◌≡◌, sym, subst}
 use lib.ListN.{get_or}
 use Rattle.channel.specs.Channel.{Channel, width, rows}
 use Rattle.classes.specs.Halves.{half, low_small}
@@ -11,12 +11,8 @@ use Rattle.judge.proofs.faults.first_open.Goals as goal
 
 pub loop-i-init : goal.loop-i-init
 loop-i-init c =
-    let a = c.args in (
-      omega arith,
-      c.requires.1.places,
-      firsts-none (rows a.top.now a.bot.now) (marks_in a.scratch.now) a.firsts.now
-          c.requires.1.free,
-    )
+    let a = c.args in
+    firsts-none (rows a.top.now a.bot.now) (marks_in a.scratch.now) a.firsts.now c.requires.1.free
 
 pub net_at-net-requires : goal.net_at-net-requires
 net_at-net-requires c = omega (arith, c.requires.0.escapes.even)
@@ -33,7 +29,7 @@ claim-requires c =
     let a = c.args in
     omega (
       arith,
-      c.loop-i.invariant.1,
+      c.requires.1.places,
       c.net_at-net.ensures,
       net-low (rows a.top.now a.bot.now)
           c.requires.0.escapes
@@ -44,25 +40,16 @@ pub overflow_add-result : goal.overflow_add-result
 overflow_add-result c =
     omega (arith, c.requires.0.escapes.narrow)
 
-pub shape_of-firsts-then-not-claim : goal.shape_of-firsts-then-not-claim
-shape_of-firsts-then-not-claim c =
-    c.claim.auto.table ∙ c.loop-i.invariant.1
-    ∙ sym c.requires.1.places
-
 pub returns-then-not-claim : goal.returns-then-not-claim
 returns-then-not-claim c =
     let turn = c.loop-i in
     let s = c.args.scratch.now in
     let long = c.requires.0.long in
     let e = mark-at s turn.i (omega arith) in
-    firsts-refused (rows c.args.top.now c.args.bot.now) (marks_in s) turn.i turn.invariant.2
+    firsts-refused (rows c.args.top.now c.args.bot.now) (marks_in s) turn.i turn.invariant
     c.loop-i-test.true
     (rw (c.low.ensures, ← e, c.net_at-net.ensures) at
     c.claim.ensures) (c.if-not-claim.true)
-
-pub overflow_add-i : goal.overflow_add-i
-overflow_add-i c =
-    omega (arith, c.requires.0.escapes.narrow)
 
 pub loop-i-preserved : goal.loop-i-preserved
 loop-i-preserved c =
@@ -74,17 +61,11 @@ loop-i-preserved c =
     let long = ready.long in
     let e = mark-at s turn.i (omega arith) in
     let marked : (q : ℕ) → q < width ch + width ch
-    → 0 < get_or (marks_in s) q 0 = λ q l. let m = mark-at s q (omega arith) in omega arith in (
-      omega arith,
-      c.claim.auto.table ∙ turn.invariant.1,
-      firsts-next ch (marks_in s) turn.i turn.invariant.2
-          c.loop-i-test.true ready.escapes marked (omega arith)
-          (rw (c.low.ensures, ← e, c.net_at-net.ensures) at
-          c.claim.ensures) (c.if-not-claim.false),
-    )
-
-pub shape_of-firsts : goal.shape_of-firsts
-shape_of-firsts c = c.loop-i.invariant.1 ∙ sym c.requires.1.places
+    → 0 < get_or (marks_in s) q 0 = λ q l. let m = mark-at s q (omega arith) in omega arith in
+    firsts-next ch (marks_in s) turn.i turn.invariant
+    c.loop-i-test.true ready.escapes marked (omega arith)
+    (rw (c.low.ensures, ← e, c.net_at-net.ensures) at
+    c.claim.ensures) (c.if-not-claim.false)
 
 pub returns : goal.returns
 returns c =
@@ -93,4 +74,4 @@ returns c =
     let ms = marks_in a.scratch.now in
     let end : c.loop-i.i ≡ width ch + width ch = omega arith in
     sym (no-open ch ms c.loop-i.firsts
-    (subst (FirstsKnown ch ms c.loop-i.firsts) end c.loop-i.invariant.2))
+    (subst (FirstsKnown ch ms c.loop-i.firsts) end c.loop-i.invariant))

@@ -14,8 +14,6 @@ pub loop-i-init : goal.loop-i-init
 loop-i-init c =
     let a = c.args in
     let s = a.scratch.now in (
-      omega arith,
-      refl,
       refl,
       owned-none (rows a.top.now a.bot.now) (marks_in s) (owners_in s) c.requires.1,
     )
@@ -31,17 +29,13 @@ claim_class-requires c =
     let long = ready.long in
     let small = ready.small in
     let mark = ready.marked turn.i (omega arith) in
-    let same = ap (λ (ms : List ℕ). get_or ms turn.i 0) turn.invariant.2 in
+    let same = ap (λ (ms : List ℕ). get_or ms turn.i 0) turn.invariant.0 in
     let low = net-low (rows a.top.now a.bot.now) ready.escapes turn.i in
     (omega arith, omega arith, omega arith, omega (arith, c.net_at-net.ensures))
 
 pub overflow_add-result : goal.overflow_add-result
 overflow_add-result c =
     omega (arith, c.requires.0.escapes.narrow)
-
-pub shape_of-scratch-then-not-claim_class : goal.shape_of-scratch-then-not-claim_class
-shape_of-scratch-then-not-claim_class c =
-    c.claim_class.auto.scratch ∙ c.loop-i.invariant.1
 
 pub returns-then-not-claim_class : goal.returns-then-not-claim_class
 returns-then-not-claim_class c =
@@ -50,17 +44,13 @@ returns-then-not-claim_class c =
     let claimed = c.claim_class.ensures in
     record {
       first =
-          owned-refused (rows a.top.now a.bot.now) (marks_in a.scratch.now) turn.i turn.invariant.3
+          owned-refused (rows a.top.now a.bot.now) (marks_in a.scratch.now) turn.i turn.invariant.1
           c.loop-i-test.true
-          (rw (turn.invariant.2, c.net_at-net.ensures) at claimed.claimed)
+          (rw (turn.invariant.0, c.net_at-net.ensures) at claimed.claimed)
           (c.if-not-claim_class.true);
-      marks = claimed.marks ∙ turn.invariant.2;
+      marks = claimed.marks ∙ turn.invariant.0;
       owned = λ z. absurd (omega arith);
     }
-
-pub overflow_add-i : goal.overflow_add-i
-overflow_add-i c =
-    omega (arith, c.requires.0.escapes.narrow)
 
 pub loop-i-preserved : goal.loop-i-preserved
 loop-i-preserved c =
@@ -69,17 +59,12 @@ loop-i-preserved c =
     let long = c.requires.0.long in
     let mark = c.requires.0.marked turn.i (omega arith) in
     let size = owners-length turn.scratch in (
-      omega arith,
-      c.claim_class.auto.scratch ∙ turn.invariant.1,
-      claimed.marks ∙ turn.invariant.2,
+      claimed.marks ∙ turn.invariant.0,
       owned-next (rows c.args.top.now c.args.bot.now) (marks_in c.args.scratch.now)
-          turn.i turn.invariant.3 (omega arith)
-          (rw (turn.invariant.2, c.net_at-net.ensures) at claimed.claimed)
+          turn.i turn.invariant.1 (omega arith)
+          (rw (turn.invariant.0, c.net_at-net.ensures) at claimed.claimed)
           (c.if-not-claim_class.false),
     )
-
-pub shape_of-scratch : goal.shape_of-scratch
-shape_of-scratch c = c.loop-i.invariant.1
 
 pub returns : goal.returns
 returns c =
@@ -88,5 +73,5 @@ returns c =
     let ms = marks_in a.scratch.now in
     let owners = owners_in c.loop-i.scratch in
     let end : c.loop-i.i ≡ width ch + width ch = omega arith in
-    let owned = subst (Owned ch ms owners) end c.loop-i.invariant.3 in
-    record { first = sym (no_short ch ms owners owned); marks = c.loop-i.invariant.2; owned = λ z. owned }
+    let owned = subst (Owned ch ms owners) end c.loop-i.invariant.1 in
+    record { first = sym (no_short ch ms owners owned); marks = c.loop-i.invariant.0; owned = λ z. owned }

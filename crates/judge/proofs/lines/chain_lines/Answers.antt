@@ -4,30 +4,30 @@ use Rattle.classes.specs.ChainSteps.{chained-to-none, push-ready, chained-to-nex
 use Rattle.judge.proofs.lines.chain_lines.Goals as goal
 
 pub loop-i-init : goal.loop-i-init
-loop-i-init c =
+loop-i-init g c =
     let pre = c.requires in
     chained-to-none _ _ _ pre.elements.forest pre.blank
 
-pub range_on-r-requires : goal.range_on-r-requires
-range_on-r-requires c =
+pub range_of-r-requires : goal.range_of-r-requires
+range_of-r-requires g c =
     let e = c.requires.elements in
     let k = e.count in
     place-ready _ _ _ c.loop-i.i e.judgeable (omega arith)
 
 pub push-requires : goal.push-requires
-push-requires c =
+push-requires g c =
     let l = c.loop-i in
     let z = l.invariant.size in
     push-ready _ _ _ _ _ _ l.invariant (omega arith) (c.requires.lined l.i (omega arith)) _
-    c.range_on-r.ensures
+    c.range_of-r.ensures
 
 pub loop-i-preserved : goal.loop-i-preserved
-loop-i-preserved c =
+loop-i-preserved g c =
     let l = c.loop-i in
     let z = l.invariant.size in
     let push = c.push in
     chained-to-next _ _ _ _ _ _ l.invariant (omega arith)
-    (c.requires.lined l.i (omega arith)) _ c.range_on-r.ensures _ _ push.ensures.0 push.ensures.1
+    (c.requires.lined l.i (omega arith)) _ c.range_of-r.ensures _ _ push.ensures.0 push.ensures.1
 
 pub returns : goal.returns
-returns c = let z = c.loop-i.invariant.size in chained-to-whole c.loop-i.invariant (omega arith)
+returns g c = let z = c.loop-i.invariant.size in chained-to-whole c.loop-i.invariant (omega arith)

@@ -4,43 +4,43 @@ use Rattle.judge.proofs.EnterSteps.{entering-none, entering-place, entering-read
 use Rattle.judge.proofs.lines.enter_line.Goals as goal
 
 pub loop-after-init : goal.loop-after-init
-loop-after-init c = entering-none c.requires refl
+loop-after-init g c = entering-none c.requires refl
 
-pub range_on-r-requires : goal.range_on-r-requires
-range_on-r-requires c =
+pub range_of-r-requires : goal.range_of-r-requires
+range_of-r-requires g c =
     entering-place c.requires c.loop-after.invariant (omega arith)
 
 pub enter-requires : goal.enter-requires
-enter-requires c =
+enter-requires g c =
     let some = c.loop-after-test.true in
-    entering-ready c.requires c.loop-after.invariant (omega arith) c.range_on-r.ensures
+    entering-ready c.requires c.loop-after.invariant (omega arith) c.range_of-r.ensures
 
 pub next-after-requires : goal.next-after-requires
-next-after-requires c =
+next-after-requires g c =
     let some = c.loop-after-test.true in
-    let range = c.range_on-r in
+    let range = c.range_of-r in
     (entering-next c.requires c.loop-after.invariant (omega arith) range.ensures
     c.enter.ensures refl).inside
 
 pub loop-after-smaller : goal.loop-after-smaller
-loop-after-smaller c =
+loop-after-smaller g c =
     let some = c.loop-after-test.true in
-    let range = c.range_on-r in
+    let range = c.range_of-r in
     (entering-next c.requires c.loop-after.invariant (omega arith) range.ensures
     c.enter.ensures c.next-after.ensures).less
 
 pub loop-after-preserved : goal.loop-after-preserved
-loop-after-preserved c =
+loop-after-preserved g c =
     let some = c.loop-after-test.true in
-    let range = c.range_on-r in
+    let range = c.range_of-r in
     (entering-next c.requires c.loop-after.invariant (omega arith) range.ensures
     c.enter.ensures c.next-after.ensures).entering
 
 pub shape_of-starts : goal.shape_of-starts
-shape_of-starts c = c.loop-after.invariant.size
+shape_of-starts g c = c.loop-after.invariant.size
 
 pub shape_of-forest : goal.shape_of-forest
-shape_of-forest c = c.loop-after.invariant.entered.grown.size
+shape_of-forest g c = c.loop-after.invariant.entered.grown.size
 
 pub returns : goal.returns
-returns c = rw c.loop-after-test.false at c.loop-after.invariant.entered
+returns g c = rw c.loop-after-test.false at c.loop-after.invariant.entered

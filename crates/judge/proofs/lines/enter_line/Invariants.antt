@@ -6,8 +6,8 @@ use Rattle.judge.proofs.EnterSteps.{Entering}
 use Rattle.judge.proofs.lines.enter_line.Given as goal
 
 abbrev pub invariant-loop-after : goal.invariant-loop-after
-invariant-loop-after l =
-    Entering (range_on l.across (rows l.top l.bot) l.tracks l.board) l.line l.after l.initial.starts l.starts l.initial.forest l.forest
+invariant-loop-after g l =
+    Entering (range_on g.L.Lines.across (rows l.top l.bot) l.tracks l.board) l.line l.after l.initial.starts l.starts l.initial.forest l.forest
 
 abbrev pub decreases-loop-after : goal.decreases-loop-after
-decreases-loop-after l = l.after
+decreases-loop-after g l = l.after

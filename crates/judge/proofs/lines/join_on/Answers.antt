@@ -9,30 +9,30 @@ use Rattle.judge.specs.JoinSteps.{lines-ready}
 use Rattle.judge.proofs.lines.join_on.Goals as goal
 
 pub slice_bounds-join_lines-end-2 : goal.slice_bounds-join_lines-end-2
-slice_bounds-join_lines-end-2 c =
+slice_bounds-join_lines-end-2 g c =
     let pre = c.requires in
     let few = pre.0.few in
     let size = pre.1.places in
     omega arith
 
 pub slice_bounds-join_lines-end : goal.slice_bounds-join_lines-end
-slice_bounds-join_lines-end c =
+slice_bounds-join_lines-end g c =
     let pre = c.requires in
     sym (front-blank _ (blank-zeros (widest + 1)) pre.0.few.0).places
 
 pub slice_bounds-join_lines-end-3 : goal.slice_bounds-join_lines-end-3
-slice_bounds-join_lines-end-3 c =
+slice_bounds-join_lines-end-3 g c =
     let pre = c.requires in
     sym (front-blank _ pre.1 pre.0.few.1).places
 
 pub join_lines-requires : goal.join_lines-requires
-join_lines-requires c =
+join_lines-requires g c =
     let pre = c.requires in
     lines-ready pre.0 (front-blank _ (blank-zeros (widest + 1)) pre.0.few.0)
     (front-blank _ pre.1 pre.0.few.1)
 
 pub returns : goal.returns
-returns c =
+returns g c =
     let joined = c.join_lines in (
       joined.ensures.0,
       blank-again joined.new.starts c.args.places c.requires.1

@@ -33,7 +33,7 @@ low_bot : (ch : Channel) (esc : Escapes ch) (i : ℕ) → get_or ch.bot i 0 < 51
 low_bot ch esc i = let h = bot-low ch i esc in omega arith
 
 pub loop-i-init : goal.loop-i-init
-loop-i-init c = (omega arith, copied_none _ _ c.requires.3, copied_none _ _ c.requires.4)
+loop-i-init c = (copied_none _ _ c.requires.3, copied_none _ _ c.requires.4)
 
 pub copy_net-requires : goal.copy_net-requires
 copy_net-requires c =
@@ -59,11 +59,10 @@ loop-i-preserved c =
     let b = low_bot ch esc l.i in
     let top = at_next ch.top l.i in
     let bot = at_next ch.bot l.i in (
-      omega arith,
       rw (two.0, one.0, firsts_at ch esc _ _ p.1 p.2 _ t, firsts_at ch esc _ _ p.1 p.2 _ b)
-          (copied_next (first_column ch) l.i l.invariant.1 _ _ t b top bot),
+          (copied_next (first_column ch) l.i l.invariant.0 _ _ t b top bot),
       rw (two.1, one.1, lasts-at ch esc _ _ p.1 p.2 _ t, lasts-at ch esc _ _ p.1 p.2 _ b)
-          (copied_next (last_column ch) l.i l.invariant.2 _ _ t b top bot),
+          (copied_next (last_column ch) l.i l.invariant.1 _ _ t b top bot),
     )
 
 pub returns : goal.returns
@@ -71,4 +70,4 @@ returns c =
     let l = c.loop-i in
     let ch = rows c.args.top.now c.args.bot.now in
     let all : l.i ≡ width ch = omega arith in
-    copied-due ch c.requires.0.escapes.even (rw (← all) l.invariant.1) (rw (← all) l.invariant.2)
+    copied-due ch c.requires.0.escapes.even (rw (← all) l.invariant.0) (rw (← all) l.invariant.1)

@@ -2,6 +2,7 @@
 -- the lowest of all.
 use Rattle.std.proofs.Common.{ℕ, List, suc, ◌+◌, ◌-◌, ◌<◌, ◌≡◌, ap, ◌∙◌, arith, get_or, set}
 use Rattle.lists.specs.Ends.{at_suc}
+use Rattle.grid.specs.Numbers.{track_numbers, track-at}
 use Rattle.channel.specs.Channel.{rows}
 use Rattle.channel.specs.Parked.{NetsOnly}
 use Rattle.channel.specs.Spans.{each512}
@@ -22,7 +23,7 @@ low {top} {bot} p i =
     record { upper = omega arith; lower = omega arith }
 
 pub loop-i-init : goal.loop-i-init
-loop-i-init c = (omega arith, past-none (rows c.args.top.now c.args.bot.now) (bare c.args.tracks.now))
+loop-i-init c = past-none (rows c.args.top.now c.args.bot.now) (bare (track_numbers c.args.tracks.now))
 
 pub bounds-tracks-b : goal.bounds-tracks-b
 bounds-tracks-b c = (low c.requires (c.loop-i.i - 1)).lower
@@ -33,25 +34,21 @@ bounds-columns-a c = (low c.requires (c.loop-i.i - 1)).upper
 pub loop-i-preserved-then-a-b : goal.loop-i-preserved-then-a-b
 loop-i-preserved-then-a-b c =
     let i = c.loop-i.i in
-    let ch = rows c.args.top.now c.args.bot.now in (
-      omega arith,
-      ap (λ (l : List ℕ). set l (get_or c.args.top.now (i - 1) 0) (i - 1 + 1)) c.loop-i.invariant.1
-          ∙ past_more ch (bare c.args.tracks.now) c.requires i (i - 1) (omega arith) c.loop-i.invariant.0
-          (low c.requires (c.loop-i.i - 1)).upper c.if-a-b.true,
-    )
+    let ch = rows c.args.top.now c.args.bot.now in
+    ap (λ (l : List ℕ). set l (get_or c.args.top.now (i - 1) 0) (i - 1 + 1)) c.loop-i.invariant
+    ∙ past_more ch (bare (track_numbers c.args.tracks.now)) c.requires i (i - 1) (omega arith) (omega arith)
+    (low c.requires (c.loop-i.i - 1)).upper (rw (track-at c.args.tracks.now) c.if-a-b.true)
 
 pub loop-i-preserved : goal.loop-i-preserved
 loop-i-preserved c =
     let i = c.loop-i.i in
-    let ch = rows c.args.top.now c.args.bot.now in (
-      omega arith,
-      c.loop-i.invariant.1 ∙ past_same ch (bare c.args.tracks.now) i (i - 1) (omega arith) c.loop-i.invariant.0
-          c.if-a-b.false,
-    )
+    let ch = rows c.args.top.now c.args.bot.now in
+    c.loop-i.invariant ∙ past_same ch (bare (track_numbers c.args.tracks.now)) i (i - 1) (omega arith) (omega arith)
+    (rw (track-at c.args.tracks.now) c.if-a-b.false)
 
 pub returns : goal.returns
 returns c =
     let ch = rows c.args.top.now c.args.bot.now in
     let end : c.loop-i.i ≡ 0 = omega arith in
-    c.loop-i.invariant.1 ∙ (ap (λ (i : ℕ). each512 (lowest_past ch (bare c.args.tracks.now) i)) end
-    ∙ past_all ch (bare c.args.tracks.now))
+    c.loop-i.invariant ∙ (ap (λ (i : ℕ). each512 (lowest_past ch (bare (track_numbers c.args.tracks.now)) i)) end
+    ∙ past_all ch (bare (track_numbers c.args.tracks.now)))

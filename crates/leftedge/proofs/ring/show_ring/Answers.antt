@@ -1,6 +1,7 @@
 -- The columns kept are those of the first drops, so the walk stays within the nets left (`left-confines`), and from the
 -- net met again on it is the ring (`ring-shown`).
 use Rattle.std.proofs.Common.{ℕ, sym, subst, take}
+use Rattle.grid.specs.Numbers.{track_numbers}
 use Rattle.channel.specs.Channel.{rows}
 use Rattle.leftedge.specs.Ring.{net_below, Confines, Closes}
 use Rattle.leftedge.proofs.RingLaws.{left-confines, again-confines, pairs-few, pairs-fit, ring-shown}
@@ -11,7 +12,7 @@ walk_down-walked-requires c =
     let left = take c.args.count c.args.left.now in (
       left,
       subst (λ (n : ℕ). Confines c.args.bot.now c.lowest_drops-columns.result n left) (sym c.lowest_net.ensures)
-          (left-confines (rows c.args.top.now c.args.bot.now) c.args.tracks.now c.args.left.now c.args.count c.requires.0
+          (left-confines (rows c.args.top.now c.args.bot.now) (track_numbers c.args.tracks.now) c.args.left.now c.args.count c.requires.0
           c.lowest_drops-columns.result c.lowest_drops-columns.ensures),
     )
 

@@ -1,5 +1,7 @@
 -- A turn is `takes` or `leaves`, and `all_seen` closes the return.
 use Rattle.std.proofs.Common.{refl, eq-eqb, ne_eqb}
+use native.Mathlib.Omega.{arith}
+use Rattle.grid.specs.Numbers.{track-set, tracks-long}
 use Rattle.leftedge.proofs.ScanTurns.{starts, all_seen, in_tables, may-lower, takes, leaves}
 use Rattle.leftedge.proofs.tracks.scan_track.Goals as goal
 use Rattle.leftedge.proofs.tracks.scan_track.Goals.{else-under-n-eq0-via-then-under-n-eq0+else-may_follow}
@@ -18,7 +20,9 @@ may_follow-requires c =
 
 pub bounds-tracks-n : goal.bounds-tracks-n
 bounds-tracks-n c =
-    (in_tables c.requires.begins (c.loop-i.invariant _ _ c.requires.begins) c.loop-i-test.true).6
+    let inside = (in_tables c.requires.begins (c.loop-i.invariant _ _ c.requires.begins) c.loop-i-test.true).6 in
+    let long = tracks-long c.loop-i.tracks in
+    omega arith
 
 pub bounds-last-n : goal.bounds-last-n
 bounds-last-n c =
@@ -34,9 +38,9 @@ lower_above-requires c =
 
 pub loop-i-preserved-then-may_follow : goal.loop-i-preserved-then-may_follow
 loop-i-preserved-then-may_follow c it ps b =
-    takes b (c.loop-i.invariant it ps b) c.loop-i-test.true
+    rw (track-set c.loop-i.tracks _ c.args.k) (takes b (c.loop-i.invariant it ps b) c.loop-i-test.true
     (rw (eq-eqb _ _ c.if-under-n-eq0.true, ← c.may_follow.ensures) c.if-may_follow.true) _ c.lower_above.ensures _
-    c.net_of-net.ensures
+    c.net_of-net.ensures)
 
 pub loop-i-preserved : goal.loop-i-preserved
 loop-i-preserved c it ps b =

@@ -6,11 +6,11 @@ use Rattle.pinlist.proofs.line.read_numbers.Goals.{After-keep_number}
 
 -- what is known once the number of a turn is kept
 number-kept : (c : After-keep_number) → Behind c.args.text.now c.args.from c.args.row.now c.keep_number.new.row
-    c.in-Number.next (c.loop-value.count + 1)
+    c.in-Some.field-0.next (c.loop-value.count + 1)
 number-kept c =
     let loop = c.loop-value in
     number_read_lem _ _ _ loop.row _ loop.at loop.count _ _ loop.invariant c.requires.1
-    c.keep_number.ensures c.read_number-found.ensures c.in-Number.is
+    c.keep_number.ensures c.read_number-found.ensures c.in-Some.is
 
 pub loop-value-init : goal.loop-value-init
 loop-value-init c = none_yet _ _ _ c.requires.0
@@ -47,7 +47,7 @@ returns-then-b-ne32 c =
 pub loop-value-smaller : goal.loop-value-smaller
 loop-value-smaller c =
     let loop = c.loop-value in
-    let h = number-later _ _ _ loop.row loop.at loop.count _ _ loop.invariant c.read_number-found.ensures c.in-Number.is in
+    let h = number-later _ _ _ loop.row loop.at loop.count _ _ loop.invariant c.read_number-found.ensures c.in-Some.is in
     omega arith
 
 pub loop-value-preserved : goal.loop-value-preserved

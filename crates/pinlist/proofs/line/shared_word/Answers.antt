@@ -4,22 +4,22 @@ use Rattle.pinlist.proofs.CodeLaws.{shared-first, shared-next, shared-cut, share
 use Rattle.pinlist.proofs.line.shared_word.Goals as goal
 
 pub loop-i-init : goal.loop-i-init
-loop-i-init c = (omega arith, omega arith, shared-first _ _ c.args.at)
+loop-i-init c = (omega arith, shared-first _ _ c.args.at)
 
 pub returns-then-text-at : goal.returns-then-text-at
-returns-then-text-at c = let loop = c.loop-i in shared-cut _ _ _ loop.i (omega arith) loop.invariant.2
+returns-then-text-at c = let loop = c.loop-i in shared-cut _ _ _ loop.i (omega arith) loop.invariant.1
 
 pub returns-then-text-at-2 : goal.returns-then-text-at-2
 returns-then-text-at-2 c =
     let loop = c.loop-i in
-    shared-differs _ _ _ loop.i (omega arith) (omega arith) c.if-text-at-2.true loop.invariant.2
+    shared-differs _ _ _ loop.i (omega arith) (omega arith) c.if-text-at-2.true loop.invariant.1
 
 pub loop-i-preserved : goal.loop-i-preserved
 loop-i-preserved c =
     let loop = c.loop-i in
-    (omega arith, omega arith, shared-next _ _ _ loop.i (omega arith) (omega arith) c.if-text-at-2.false loop.invariant.2)
+    (omega arith, shared-next _ _ _ loop.i (omega arith) (omega arith) c.if-text-at-2.false loop.invariant.1)
 
 pub returns : goal.returns
 returns c =
     let loop = c.loop-i in let e : 4 ≡ loop.i = omega arith in
-    e ∙ shared-whole _ _ _ loop.i (omega arith) loop.invariant.2
+    e ∙ shared-whole _ _ _ loop.i (omega arith) loop.invariant.1

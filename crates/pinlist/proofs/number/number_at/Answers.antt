@@ -1,5 +1,5 @@
 use native.Mathlib.Omega.{arith}
-use mathlib.Core.Path.{sym, ◌∙◌}
+use Rattle.std.proofs.Common.{◌≡◌, length, sym, ◌∙◌}
 use mathlib.Core.Logic.{⊎_elim}
 use Rattle.pinlist.proofs.CodeLaws.{number-none, number-zero, number-other, number-digit, digits-end, digits-stop}
 use Rattle.pinlist.proofs.CodeLaws.{digits_more}
@@ -20,12 +20,12 @@ overflow_cast-value c = omega arith
 
 pub loop-next-init : goal.loop-next-init
 loop-next-init c =
-    (omega arith, omega arith, number-digit _ _ (omega arith) (omega arith) (omega arith))
+    (omega arith, number-digit _ _ (omega arith) (omega arith) (omega arith))
 
 pub returns-then-b-lt48 : goal.returns-then-b-lt48
 returns-then-b-lt48 c =
     let loop = c.loop-next in sym
-    (loop.invariant.2 ∙ digits-stop _ loop.value loop.next (omega arith)
+    (loop.invariant.1 ∙ digits-stop _ loop.value loop.next (omega arith)
     (λ w. ⊎_elim (λ t. omega arith) (λ t. omega arith) c.then-b-lt48.either))
 
 pub with_digit-value-requires : goal.with_digit-value-requires
@@ -36,11 +36,12 @@ loop-next-preserved c =
     let loop = c.loop-next in
     let e = c.with_digit-value.ensures in (
       omega arith,
-      omega arith,
-      loop.invariant.2 ∙ (digits_more _ loop.value loop.next (omega arith) (omega arith)
+      loop.invariant.1 ∙ (digits_more _ loop.value loop.next (omega arith) (omega arith)
           (omega arith) ∙ rw (← e)),
     )
 
 pub returns : goal.returns
 returns c =
-    let loop = c.loop-next in sym (loop.invariant.2 ∙ digits-end _ loop.value loop.next c.loop-next-test.false)
+    let loop = c.loop-next in
+    let end : loop.next ≡ length c.args.text.now = omega arith in
+    rw (← end) (sym (loop.invariant.1 ∙ digits-end _ loop.value loop.next c.loop-next-test.false))

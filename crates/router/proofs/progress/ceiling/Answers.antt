@@ -1,25 +1,13 @@
--- `router::progress::ceiling` meets its contract: rows that the check accepts escape the refusals, and their ceiling is
--- told. Else the answer is the refusal of the check.
-use mathlib.Core.Path.{sym, ◌∙◌, ap}
-use lib.ListN.{length}
-use Rattle.channel.specs.Channel.{rows, spanning}
-use Rattle.channel.proofs.BoundLaws.{accepted→escapes}
-use Rattle.leftedge.specs.Looks.{ceiling}
-use Rattle.router.specs.declared.progress.LooksAnswer.TheVariants.{Looks}
+use Rattle.std.proofs.Common.{◌∙◌, ap, refl, Ok}
+use Rattle.refusal.specs.ChainLaws.{handed-on}
 use Rattle.router.specs.Progress.{ceiling_answer}
 use Rattle.router.specs.ProgressLaws.{number-accepted, number-refused}
 use Rattle.router.proofs.progress.ceiling.Goals as goal
 
-pub ceiling_of_checked-requires : goal.ceiling_of_checked-requires
-ceiling_of_checked-requires c = accepted→escapes _ (sym c.in-Accepted.ensures)
-
-pub returns-in-Refused : goal.returns-in-Refused
+pub returns-in_err-check : goal.returns-in_err-check
 unfolding ceiling_answer
-returns-in-Refused c =
-    sym (number-refused (rows c.args.top.now c.args.bot.now) (ceiling (length (spanning (rows c.args.top.now c.args.bot.now)))) c.in-Refused.refusal (sym c.in-Refused.ensures))
+returns-in_err-check c = handed-on _ c.from_residual.ensures.1 ∙ number-refused _ _ c.in_err-check.ensures.answer
 
-pub returns-in-Accepted : goal.returns-in-Accepted
+pub returns : goal.returns
 unfolding ceiling_answer
-returns-in-Accepted c =
-    ap Looks c.ceiling_of_checked.ensures
-    ∙ sym (number-accepted (rows c.args.top.now c.args.bot.now) (ceiling (length (spanning (rows c.args.top.now c.args.bot.now)))) (sym c.in-Accepted.ensures))
+returns c = ap Ok c.ceiling_of_checked.ensures ∙ number-accepted _ _ (c.in_ok-check.ensures.accepted.0 refl)
