@@ -1,8 +1,9 @@
 -- The rule of the blanks, over any rising table: where some entry holds t, the first that does is the smallest that
 -- does; and it is the one that a search from the front comes to.
-use Rattle.std.specs.Prelude.{ℕ, ◌≤◌, ◌≡◌, leb, nat_le, find, Some}
-use Rattle.std.proofs.Common.{leb→le, le→leb}
-use mathlib.Core.List.{List, Memᴰ}
+use Rattle.std.specs.Prelude.{ℕ, zero, suc, ◌≤◌, ◌<◌, ◌≡◌, length, get_or, leb, nat_le, find, Some}
+use Rattle.std.proofs.Common.{arith, leb→le, le→leb, le-leb}
+use mathlib.Core.List.{List, [], ◌∷◌, Memᴰ}
+use Rattle.std.proofs.lemmas.Bool.{lt-leb}
 use Rattle.lists.specs.Finds.{found-head}
 use Rattle.lists.specs.Lists.{keep, head_or}
 use Rattle.lists.specs.Members.{keep-member, kept}
@@ -27,3 +28,13 @@ smallest-holds table t b m h r =
 pub found-smallest : (table : List ℕ) (t : ℕ) {b : ℕ} → find (nat_le t) table ≡ Some b → smallest_for table t ≡ b
 unfolding smallest_for
 found-smallest table t = found-head (leb t) 0 table
+
+-- the entry that a search comes to, of which none before it holds t
+pub first-that-holds : (table : List ℕ) (t i : ℕ) → i < length table → ((k : ℕ) → k < i → get_or table k 0 < t)
+    → t ≤ get_or table i 0 → smallest_for table t ≡ get_or table i 0
+unfolding smallest_for keep head_or
+first-that-holds [] t i h below holds = absurd (omega arith)
+first-that-holds (x ∷ xs) t zero h below holds = rw (le-leb t x holds)
+first-that-holds (x ∷ xs) t (suc i) h below holds =
+    rw (lt-leb t x (below 0 (omega arith)))
+    (first-that-holds xs t i (omega arith) (λ k l. below (suc k) (omega arith)) holds)

@@ -12,7 +12,8 @@ const MOST_ENTRIES: usize = 64;
 
 const MOST_TRACKS: u32 = 512;
 
-// The place, from 1, of the first entry that is not 1 to 512 or not above the entry before it.
+// The place, from 1, of the first entry that is not 1 to 512 or not above the entry before it. A `for`, since pairs of
+// neighbours would be no plainer: the first entry has none before it.
 fn first_bad(table: &[u32]) -> Option<usize>
     ensures { result ≡ find (bad_entry table.now) (up_to (length table.now)) }
 {

@@ -16,29 +16,13 @@ pub struct BoardReader<'a> {
     pub count: usize,
 }
 
-// How many pieces a reader of these bytes answers: the file's count, none of a file that does not open.
-fn count_of(board: &[u8]) -> usize
-    ensures { result ≡ reader_count board.now }
-{
-    boardfile::open(board).map_or(0, |opened| opened.count as usize)
-}
-
-// The piece of a number, where `count` pieces are answered.
-fn piece_within(board: &[u8], count: usize, number: usize) -> Result<Piece, Refusal>
-    ensures { result ≡ reader_piece board.now count number }
-{
-    if number < 1 || count < number {
-        return Err(Refusal::BadField(number));
-    }
-    boardfile::piece_at(board, number)
-}
-
 // Opens a reader over bytes of any kind. A file that is refused has a reader too, which tells the refusal and answers
 // no piece.
+#[tactic(auto, unfolding(crate::specs::Reader::reader_count, crate::specs::Reader::count_in))]
 pub fn over<'a>(board: &'a [u8]) -> BoardReader<'a>
     ensures { (result.board ≡ board.entry) × (result.count ≡ reader_count board.now) }
 {
-    let count = count_of(board);
+    let count = boardfile::open(board).map_or(0, |opened| opened.count as usize);
     BoardReader { board, count }
 }
 
@@ -51,10 +35,14 @@ impl<'a> BoardReader<'a> {
     }
 
     // The piece of a number, from 1; another number gives 9 with that number as place.
+    #[tactic(auto, unfolding(crate::specs::Reader::reader_piece))]
     pub fn piece(self, number: usize) -> Result<Piece, Refusal>
         ensures { result ≡ reader_piece self.entry.board.now self.entry.count number }
     {
-        piece_within(self.board, self.count, number)
+        if number < 1 || self.count < number {
+            return Err(Refusal::BadField(number));
+        }
+        boardfile::piece_at(self.board, number)
     }
 }
 
@@ -86,9 +74,9 @@ mod tests {
     #[test]
     fn a_reader_answers_more_than_once(rt: HostRuntime) {
         let reader = over(&BOARD);
-        assert!(rt; reader.piece(1).is_ok());
-        assert!(rt; reader.piece(11).is_ok());
-        assert!(rt; reader.piece(12).is_err());
-        assert!(rt; reader.opening().is_ok_and(|opened| opened.count == 11));
+        assert!(rt; matches!(reader.piece(1), Ok(_)));
+        assert!(rt; matches!(reader.piece(11), Ok(_)));
+        assert!(rt; matches!(reader.piece(12), Err(_)));
+        assert!(rt; matches!(reader.opening(), Ok(Board { count: 11, .. })));
     }
 }

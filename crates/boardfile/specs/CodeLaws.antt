@@ -1,6 +1,7 @@
 -- What the code learns on its way, turned into the answers: the first bad piece from the pieces passed, and the answer
 -- of opening from the header and the tests on it.
-use Rattle.std.specs.Prelude.{ℕ, ◌+◌, ◌*◌, ◌≤◌, ◌<◌, ◌≡◌, List, ◌⊎◌, Bool, true, false, not, ◌||◌, length, T, eqb, find, Option, Some, None, Ok, Err}
+use Rattle.std.specs.Prelude.{ℕ, ◌+◌, ◌*◌, ◌≤◌, ◌<◌, ◌≡◌, refl, List, ◌⊎◌, Bool, true, false, cond, not, ◌||◌, length, T, eqb, find, Option, Some, None, Ok, Err}
+use Rattle.std.specs.Option.{is_some}
 use Rattle.std.proofs.Common.{arith, sym, inl, inr}
 use Rattle.std.proofs.Math.Path.{ap}
 use Rattle.std.proofs.Math.Logic.{⊎_elim}
@@ -24,6 +25,11 @@ header-wrong w spare (inr (inl high)) = rw (le-leb 1 w (omega arith), lt-leb w 5
 header-wrong w spare (inr (inr set)) =
     T→true (not (within 1 w 512) || eqb spare 1)
     (or_right (not (within 1 w 512)) (eqb spare 1) (true→T (eqb spare 1) (eq-eqb spare 1 set)))
+
+-- a piece is made of a word exactly if the word is right
+pub some-made : {A : Type 0} (b : Bool) (x : A) → is_some (cond b (Some x) None) ≡ b
+some-made true x = refl
+some-made false x = refl
 
 module _ (bs : List ℕ) (w t n : ℕ) where
   -- the word of this piece, and of each before it

@@ -1,7 +1,7 @@
 // The board file: the words that a writer puts, and what the reader of a file of any bytes answers.
 #![tactic(auto)]
 
-ghost use Rattle.std.specs.Prelude.{◌≡◌, ◌+◌, ◌*◌, ◌≤◌, ◌<◌, length, find};
+ghost use Rattle.std.specs.Prelude.{◌≡◌, ◌+◌, ◌*◌, ◌≤◌, ◌<◌, length, find, cond, None, Some};
 ghost use Rattle.std.proofs.lemmas.List.Edits.{sets};
 ghost use Rattle.boardfile.specs.Encode.{word, header, piece_word};
 ghost use Rattle.boardfile.specs.Open.{word_at, header_of, fields_of, word_right, piece_of};
@@ -22,6 +22,7 @@ pub struct Board {
 }
 
 // The fields of the header's word.
+// Not `Board`: it has the spare bit too, which is 0 of each board that opens.
 #[derive(Clone, Copy)]
 pub struct Header {
     pub width: u32,
@@ -31,6 +32,7 @@ pub struct Header {
 }
 
 // The fields of a piece's word.
+// The kind is a number: the word of a file of any bytes may hold one that is no kind.
 #[derive(Clone, Copy)]
 pub struct Fields {
     pub kind: u32,
@@ -39,25 +41,18 @@ pub struct Fields {
     pub to: u32,
 }
 
-// A byte as a number.
-fn wide(b: u8) -> u32
-    ensures { result ≡ b }
-{
-    b as u32
-}
-
 // The 32 bits that begin at byte `at`, most significant first.
+// Bytes and a place, no `[u8; 4]`: docs/PROMISES.md names this function, `put_word` and `put_piece` so.
+#[tactic(auto, unfolding(crate::specs::Open::word_at))]
 pub fn word_at(board: &[u8], at: usize) -> u32
     requires { at + 4 ≤ length board.now }
     ensures { result ≡ word_at board.now at }
 {
-    wide(board[at]) * 16777216
-        + wide(board[at + 1]) * 65536
-        + wide(board[at + 2]) * 256
-        + wide(board[at + 3])
+    u32::from_be_bytes([board[at], board[at + 1], board[at + 2], board[at + 3]])
 }
 
-// The header of its word.
+// The header of its word. No From: docs/PROMISES.md names the function and `fields_of`.
+#[tactic(auto, unfolding(crate::specs::Open::header_of))]
 pub fn header_of(head: u32) -> Header
     ensures { result ≡ header_of head }
 {
@@ -70,6 +65,7 @@ pub fn header_of(head: u32) -> Header
 }
 
 // The fields of the word of a piece.
+#[tactic(auto, unfolding(crate::specs::Open::fields_of))]
 pub fn fields_of(word: u32) -> Fields
     ensures { result ≡ fields_of word }
 {
@@ -82,17 +78,17 @@ pub fn fields_of(word: u32) -> Fields
 }
 
 // Four bytes of a word, most significant first, at byte `at`; the other bytes stay.
+#[tactic(auto, using(lists::specs::Copies::part_is_sets), unfolding(crate::specs::Encode::word))]
 pub fn put_word(board: &mut [u8], at: usize, v: u32)
     requires { at + 4 ≤ length board.old }
     ensures { board.new ≡ sets board.old at (word v) }
 {
-    board[at] = (v / 16777216 % 256) as u8;
-    board[at + 1] = (v / 65536 % 256) as u8;
-    board[at + 2] = (v / 256 % 256) as u8;
-    board[at + 3] = (v % 256) as u8;
+    board[at..at + 4].copy_from_slice(&v.to_be_bytes());
 }
 
 // The header of a board of `width` columns, `tracks` tracks and `count` pieces, at the front.
+// Plain numbers with a clause, and no From of a Header: docs/PROMISES.md names the function so.
+#[tactic(auto, unfolding(crate::specs::Encode::header))]
 pub fn put_header(board: &mut [u8], width: u32, tracks: u32, count: u32)
     requires { (4 ≤ length board.old) × (width < 1024) × (tracks < 512) × (count < 4096) }
     ensures { board.new ≡ sets board.old 0 (word (header width tracks count)) }
@@ -101,6 +97,8 @@ pub fn put_header(board: &mut [u8], width: u32, tracks: u32, count: u32)
 }
 
 // The word of a piece in the file.
+// No From: this asks that the numbers of the piece are small (`SmallWords`), and a From asks nothing.
+#[tactic(auto, unfolding(crate::specs::Encode::piece_word, crate::specs::Encode::fields, grid::specs::Pieces::kind_of, grid::specs::Words::line_of, grid::specs::Words::from_of, grid::specs::Words::to_of))]
 fn word_of(piece: Piece) -> u32
     requires { SmallWords piece }
     ensures { result ≡ piece_word piece }
@@ -124,10 +122,11 @@ pub fn put_piece(board: &mut [u8], at: usize, piece: Piece)
     put_word(board, at, word_of(piece));
 }
 
-// The fields of a piece's word are in their ranges on a grid of `width` columns and `tracks` tracks.
-fn word_right(width: u32, tracks: u32, v: u32) -> bool
+// The piece of a word, if its fields are in their ranges on a grid of `width` columns and `tracks` tracks.
+#[tactic(auto, unfolding(crate::specs::Open::word_right, crate::specs::Open::piece_of, grid::specs::Words::fields_right, grid::specs::Words::make_piece))]
+fn piece_in(width: u32, tracks: u32, v: u32) -> Option<Piece>
     requires { tracks < 512 }
-    ensures { result ≡ word_right width tracks v }
+    ensures { result ≡ cond (word_right width tracks v) (Some (piece_of v)) None }
 {
     let Fields {
         kind,
@@ -135,55 +134,40 @@ fn word_right(width: u32, tracks: u32, v: u32) -> bool
         from,
         to,
     } = fields_of(v);
-    if kind == TRUNK {
-        return (1 <= line) & (line <= tracks) & ((1 <= from) & ((from < to) & (to <= width)));
-    }
-    if kind == BRANCH {
-        return (1 <= line) & (line <= width) & ((from < to) & (to <= tracks + 1));
-    }
-    if kind == CONTACT {
-        return (1 <= line) & (line <= width) & ((1 <= from) & (from <= tracks) & (from == to));
-    }
-    false
-}
-
-// The piece of a word whose fields are right.
-fn piece_of(v: u32) -> Piece
-    ensures { result ≡ piece_of v }
-{
-    let Fields {
-        kind,
-        line,
-        from,
-        to,
-    } = fields_of(v);
-    if kind == TRUNK {
-        return Piece::Trunk {
-            track: Track(line),
-            first: Column(from),
-            last: Column(to),
-        };
-    }
-    if kind == BRANCH {
-        return Piece::Branch {
-            column: Column(line),
-            low: Row(from),
-            high: Row(to),
-        };
-    }
-    Piece::Contact {
-        column: Column(line),
-        track: Track(from),
+    match kind {
+        TRUNK if (1 <= line) & (line <= tracks) & ((1 <= from) & ((from < to) & (to <= width))) => {
+            Some(Piece::Trunk {
+                track: Track(line),
+                first: Column(from),
+                last: Column(to),
+            })
+        }
+        BRANCH if (1 <= line) & (line <= width) & ((from < to) & (to <= tracks + 1)) => {
+            Some(Piece::Branch {
+                column: Column(line),
+                low: Row(from),
+                high: Row(to),
+            })
+        }
+        CONTACT
+            if (1 <= line) & (line <= width) & ((1 <= from) & (from <= tracks) & (from == to)) => {
+            Some(Piece::Contact {
+                column: Column(line),
+                track: Track(from),
+            })
+        }
+        _ => None,
     }
 }
 
-// The number of the first of `count` pieces whose word breaks a range or kind.
+// The number of the first of `count` pieces whose word breaks a range or kind. A `for`: of `(1..=count).find(..)` the
+// result was not proved, since the library tells a range by its steps, and not as the list that the clause is over.
 fn first_bad(board: &[u8], width: u32, tracks: u32, count: u32) -> Option<u32>
     requires { (length board.now ≡ 4 + 4 * count) × (tracks < 512) × (count < 4096) }
     ensures { result ≡ find (wrong_piece board.now width tracks) (up_to count) }
 {
     for i in 1..=count {
-        if !word_right(width, tracks, word_at(board, 4 * i as usize)) {
+        if piece_in(width, tracks, word_at(board, 4 * i as usize)).is_none() {
             return Some(i);
         }
     }
@@ -191,6 +175,7 @@ fn first_bad(board: &[u8], width: u32, tracks: u32, count: u32) -> Option<u32>
 }
 
 // Opens a board file of any bytes. Time is linear in the file.
+#[tactic(auto, unfolding(crate::specs::Open::header_of))]
 pub fn open(board: &[u8]) -> Result<Board, Refusal>
     ensures { result ≡ open_answer board.now }
 {
@@ -222,6 +207,7 @@ pub fn open(board: &[u8]) -> Result<Board, Refusal>
 
 // The piece of a given number, from 1; another number is refused with that number as place. It takes bytes that were
 // never opened too.
+#[tactic(auto, unfolding(crate::specs::Open::piece_answer, crate::specs::Open::file_count, crate::specs::Open::file_width, crate::specs::Open::file_tracks, crate::specs::Open::header_of))]
 pub fn piece_at(board: &[u8], number: usize) -> Result<Piece, Refusal>
     ensures { result ≡ piece_answer board.now number }
 {
@@ -241,9 +227,5 @@ pub fn piece_at(board: &[u8], number: usize) -> Result<Piece, Refusal>
     if board.len() < 4 * number + 4 {
         return Err(Refusal::BadField(number));
     }
-    let v = word_at(board, 4 * number);
-    if !word_right(width, tracks, v) {
-        return Err(Refusal::BadField(number));
-    }
-    Ok(piece_of(v))
+    piece_in(width, tracks, word_at(board, 4 * number)).ok_or(Refusal::BadField(number))
 }

@@ -1,41 +1,17 @@
 -- The loops over a row: whether its end is kept, and the numbers stored in it; and over the calls on a draft.
 use Prim.Native.Nat.{ℕ, suc, ◌+◌, ◌-◌, ◌*◌, ◌/◌, ◌≤◌, ◌<◌}
 use native.Mathlib.Omega.{arith}
-use Rattle.std.proofs.Common.{add-one, ◌∙◌, append-nil, drop_of_length-le}
-use Rattle.std.specs.Prelude.{◌≡◌, List, ◌∷◌, Bool, true, false, length, get_or, set, take, drop, leb}
-use Rattle.std.proofs.Math.Path.{sym}
-use Rattle.std.proofs.Math.Seq.{drop-cons}
-use borrow.Author.Tests.{eq-eqb, ne_eqb, lt-ltb, le-ltb, le-leb, lt-leb}
-use Rattle.lists.specs.Lists.{all_of, from, overlay}
-use Rattle.lists.specs.Arrays.{length-map-from, get_or-numbered}
-use Rattle.lists.specs.Overlays.{copied_next, copied-whole}
-use Rattle.cases.specs.Cases.{
-  mark,
-  is_kept,
-  pair_of,
-  number_at,
-  numbers_at,
-  row_room,
-  rows_fit,
-  rows_whole,
-  beside_whole,
-  calls_whole,
-  draft_whole,
-}
+use Rattle.std.specs.Int.{w16, from_be_bytes}
+use Rattle.std.proofs.Common.{add-one}
+use Rattle.std.specs.Prelude.{◌≡◌, List, [], ◌∷◌, Bool, true, false, length, get_or, take, drop, leb}
+use Rattle.std.proofs.Math.Path.{sym, ◌∙◌}
+use borrow.Author.Tests.{lt-ltb, le-ltb, le-leb, lt-leb}
+use Rattle.lists.specs.Lists.{all_of, from}
+use Rattle.cases.specs.Cases.{pair_of, number_at, row_room, rows_whole, beside_whole, calls_whole, draft_whole}
 
-module _ (row : List ℕ) (i : ℕ) where
-  -- the loop of `is_kept`
-  pub kept_next : i < length row → get_or row i 0 ≡ mark → is_kept row i ≡ is_kept row (i + 1)
-  unfolding is_kept all_of
-  kept_next h e = rw (add-one, drop-cons row i 0, eq-eqb (get_or row i 0) mark e)
-
-  pub not-kept : i < length row → (get_or row i 0 ≡ mark → ⊥) → is_kept row i ≡ false
-  unfolding is_kept all_of
-  not-kept h e = rw (drop-cons row i 0, ne_eqb (get_or row i 0) mark e)
-
-  pub kept-end : length row ≤ i → is_kept row i ≡ true
-  unfolding is_kept all_of
-  kept-end h = rw (drop_of_length-le row h)
+-- a number of two bytes, most significant first
+pub pair-value : (high low : ℕ) → from_be_bytes w16 (high ∷ low ∷ []) ≡ pair_of high low
+pair-value high low = omega arith
 
 module _ (bytes : List ℕ) (at : ℕ) where
   pub number-there : at + 2 ≤ length bytes → pair_of (get_or bytes at 0) (get_or bytes (at + 1) 0) ≡ number_at bytes at
@@ -46,50 +22,58 @@ module _ (bytes : List ℕ) (at : ℕ) where
   unfolding number_at
   number_short h = sym (rw (lt-ltb (length bytes) (at + 2) h))
 
-  -- the loop of `read_row`
-  module _ (row₀ : List ℕ) where
-    abbrev numbers : List ℕ
-    numbers = numbers_at bytes at (length row₀)
-
-    size : length numbers ≡ length row₀
-    unfolding numbers_at
-    size = length-map-from (λ k. number_at bytes (at + 2 * k)) (length row₀)
-
-    pub numbers-next : {row : List ℕ} (i : ℕ) → i < length row₀ → row ≡ overlay (take i numbers) row₀
-        → set row i (number_at bytes (at + 2 * i)) ≡ overlay (take (i + 1) numbers) row₀
-    unfolding numbers_at
-    numbers-next i h e =
-        let same = get_or-numbered (λ k. number_at bytes (at + 2 * k)) (length row₀) i h in
-        rw (← same) (copied_next numbers row₀ i 0 (omega (arith, size)) (omega (arith, size)) e)
-
-    pub numbers-whole : {row : List ℕ} (i : ℕ) → length row₀ ≤ i → row ≡ overlay (take i numbers) row₀ → row ≡ numbers
-    numbers-whole i h e =
-        copied-whole numbers row₀ i (omega (arith, size)) e
-        ∙ rw (drop_of_length-le row₀ {i = length numbers} (omega (arith, size))) (append-nil numbers)
+-- the first two bytes are the number at byte 0
+pub number-first : (bytes : List ℕ) → 2 ≤ length bytes → from_be_bytes w16 (take 2 bytes) ≡ number_at bytes 0
+number-first [] h = absurd (omega arith)
+number-first (high ∷ []) h = absurd (omega arith)
+number-first (high ∷ (low ∷ rest)) h = pair-value high low ∙ number-there (high ∷ (low ∷ rest)) 0 h
 
 -- whether the bytes make a question about two rows, test by test
 module _ (bytes : List ℕ) where
-  pub rows_short : length bytes < 2 → false ≡ rows_whole bytes
+  pub rows_short : length bytes < 2 → rows_whole bytes ≡ false
   unfolding rows_whole
-  rows_short h = sym (rw (lt-leb 2 (length bytes) h))
+  rows_short h = rw (lt-leb 2 (length bytes) h)
 
-  pub beside-short : length bytes < 2 → false ≡ beside_whole bytes
+  pub beside-short : length bytes < 2 → beside_whole bytes ≡ false
   unfolding beside_whole
-  beside-short h = sym (rw (lt-leb 2 (length bytes) h))
+  beside-short h = rw (lt-leb 2 (length bytes) h)
 
   module _ (h : 2 ≤ length bytes) {a : ℕ} (e : a ≡ number_at bytes 0) where
-    pub rows_few : (length bytes - 2) / 2 < a → false ≡ rows_whole bytes
+    pub rows_few : (length bytes - 2) / 2 < a → rows_whole bytes ≡ false
     unfolding rows_whole
-    rows_few k = sym (rw (le-leb 2 (length bytes) h, ← e, lt-leb a ((length bytes - 2) / 2) k))
+    rows_few k = rw (le-leb 2 (length bytes) h, ← e, lt-leb a ((length bytes - 2) / 2) k)
 
-    pub rows-enough : a ≤ (length bytes - 2) / 2
-        → rows_fit a ((length bytes - 2) / 2 - a) row_room row_room ≡ rows_whole bytes
+    pub rows-long : a ≤ (length bytes - 2) / 2 → row_room < a → rows_whole bytes ≡ false
     unfolding rows_whole
-    rows-enough k = sym (rw (le-leb 2 (length bytes) h, ← e, le-leb a ((length bytes - 2) / 2) k))
+    rows-long k l = rw (le-leb 2 (length bytes) h, ← e, le-leb a ((length bytes - 2) / 2) k, lt-leb a row_room l)
 
-    pub beside-few : length bytes < 2 + a → false ≡ beside_whole bytes
+    pub rows-longer : a ≤ (length bytes - 2) / 2 → a ≤ row_room → row_room < (length bytes - 2) / 2 - a
+        → rows_whole bytes ≡ false
+    unfolding rows_whole
+    rows-longer k l m =
+        rw (
+          le-leb 2 (length bytes) h,
+          ← e,
+          le-leb a ((length bytes - 2) / 2) k,
+          le-leb a row_room l,
+          lt-leb ((length bytes - 2) / 2 - a) row_room m,
+        )
+
+    pub rows-enough : a ≤ (length bytes - 2) / 2 → a ≤ row_room → (length bytes - 2) / 2 - a ≤ row_room
+        → rows_whole bytes ≡ true
+    unfolding rows_whole
+    rows-enough k l m =
+        rw (
+          le-leb 2 (length bytes) h,
+          ← e,
+          le-leb a ((length bytes - 2) / 2) k,
+          le-leb a row_room l,
+          le-leb ((length bytes - 2) / 2 - a) row_room m,
+        )
+
+    pub beside-few : length bytes < 2 + a → beside_whole bytes ≡ false
     unfolding beside_whole
-    beside-few k = sym (rw (le-leb 2 (length bytes) h, ← e, lt-leb (2 + a) (length bytes) k))
+    beside-few k = rw (le-leb 2 (length bytes) h, ← e, lt-leb (2 + a) (length bytes) k)
 
     pub beside-enough : 2 + a ≤ length bytes → rows_whole (take a (drop 2 bytes)) ≡ beside_whole bytes
     unfolding beside_whole
@@ -126,14 +110,14 @@ module _ (bytes : List ℕ) (count : ℕ) where
 
 -- whether the bytes make a question about a draft, test by test
 module _ (bytes : List ℕ) where
-  pub draft-short : length bytes < 2 → false ≡ draft_whole bytes
+  pub draft-short : length bytes < 2 → draft_whole bytes ≡ false
   unfolding draft_whole
-  draft-short h = sym (rw (lt-leb 2 (length bytes) h))
+  draft-short h = rw (lt-leb 2 (length bytes) h)
 
   module _ (h : 2 ≤ length bytes) {a : ℕ} (e : a ≡ number_at bytes 0) where
-    pub draft-many : 4104 < a → false ≡ draft_whole bytes
+    pub draft-many : 4104 < a → draft_whole bytes ≡ false
     unfolding draft_whole
-    draft-many k = sym (rw (le-leb 2 (length bytes) h, ← e, lt-leb a 4104 k))
+    draft-many k = rw (le-leb 2 (length bytes) h, ← e, lt-leb a 4104 k)
 
     pub draft-few : a ≤ 4104 → calls_whole bytes ((length bytes - 2) / 8) ≡ draft_whole bytes
     unfolding draft_whole

@@ -1,14 +1,7 @@
 -- The numbers in a case's bytes, and when its bytes make a question.
-use Rattle.std.specs.Prelude.{ℕ, ◌+◌, ◌-◌, ◌*◌, ◌/◌, List, map, Bool, cond, ◌&&◌, length, get_or, take, drop, eqb, ltb, leb}
+use Rattle.std.specs.Prelude.{ℕ, ◌+◌, ◌-◌, ◌*◌, ◌/◌, List, map, Bool, cond, ◌&&◌, length, get_or, take, drop, ltb, leb}
+use Rattle.std.specs.List.{range_with_len}
 use Rattle.lists.specs.Lists.{from, all_of}
-
--- what buffers hold everywhere before a question
-abbrev pub mark : ℕ
-mark = 7777
-
--- every number from a place on is still the mark
-unfoldable pub is_kept : List ℕ → ℕ → Bool
-is_kept row start = all_of (λ n. eqb n mark) (drop start row)
 
 -- the number in two bytes, most significant first
 abbrev pub pair_of : ℕ → ℕ → ℕ
@@ -19,8 +12,8 @@ unfoldable pub number_at : List ℕ → ℕ → ℕ
 number_at bytes at = cond (ltb (length bytes) (at + 2)) 0 (pair_of (get_or bytes at 0) (get_or bytes (at + 1) 0))
 
 -- so many numbers from a byte on
-unfoldable pub numbers_at : List ℕ → ℕ → ℕ → List ℕ
-numbers_at bytes at count = map (λ i. number_at bytes (at + 2 * i)) (from 0 count)
+abbrev pub numbers_at : List ℕ → ℕ → ℕ → List ℕ
+numbers_at bytes at count = map (λ i. number_at bytes (at + 2 * i)) (range_with_len 0 count)
 
 -- the most numbers of a row in a case
 abbrev pub row_room : ℕ

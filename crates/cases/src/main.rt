@@ -4,71 +4,99 @@
 // that fails ends the program with an error.
 #![tactic(auto)]
 
+ghost use Rattle.cases.specs.Questions.{Tells, is_whole};
+
 mod boards;
 mod channels;
 mod drafts;
 mod output;
 mod panels;
+mod question;
 mod rows;
 mod texts;
 
+use question::{Question, Unanswered};
+use std::alloc::Global;
 use std::io::{self, Read};
 
-// Writes the lines of a case, or answers false where it is of no kind or its bytes do not make a question.
-fn answer(rt: &impl Print, kind: u8, bytes: &[u8]) -> io::Result<bool> {
-    match kind {
-        0 => boards::answer_open(rt, bytes),
-        1 => boards::answer_piece(rt, bytes),
-        2 => boards::answer_blank(rt, bytes),
-        3 => texts::answer_read(rt, bytes),
-        4 => channels::answer_check(rt, bytes),
-        5 => channels::answer_bounds(rt, bytes),
-        6 => channels::answer_fill(rt, bytes),
-        7 => channels::answer_judge(rt, bytes),
-        8 => channels::answer_looks(rt, bytes),
-        9 => channels::answer_own(rt, bytes),
-        10 => channels::answer_fewest(rt, bytes),
-        11 => channels::answer_join(rt, bytes),
-        12 => drafts::answer_draft(rt, bytes),
-        _ => Ok(false),
+// The most bytes of a case.
+const CASE_ROOM: usize = 65536;
+
+// Asks a question and writes the lines of its answer.
+fn answer(
+    rt: &impl Print,
+    alloc: Global,
+    question: Question,
+    bytes: &[u8],
+) -> Result<(), Unanswered>
+    ensures { Tells result (is_whole question bytes.now) }
+{
+    match question {
+        Question::Open => {
+            boards::answer_open(rt, bytes)?;
+            Ok(())
+        }
+        Question::Piece => boards::answer_piece(rt, bytes),
+        Question::Blank => boards::answer_blank(rt, bytes),
+        Question::Read => {
+            texts::answer_read(rt, bytes)?;
+            Ok(())
+        }
+        Question::Check => rows::ask(alloc, bytes, |rows| channels::put_check(rt, rows)),
+        Question::Bounds => rows::ask(alloc, bytes, |rows| channels::put_bounds(rt, rows)),
+        Question::Fill => rows::ask(alloc, bytes, |rows| channels::put_fill(rt, rows)),
+        Question::Judge => rows::ask_beside(
+            alloc,
+            bytes,
+            |rows, board| channels::put_judged(rt, rows, board),
+        ),
+        Question::Looks => rows::ask(alloc, bytes, |rows| channels::put_looks(rt, rows)),
+        Question::Own => rows::ask(alloc, bytes, |rows| boards::put_own(rt, rows)),
+        Question::Fewest => rows::ask(alloc, bytes, |rows| channels::put_fewest(rt, rows)),
+        Question::Join => rows::ask_beside(
+            alloc,
+            bytes,
+            |rows, second| panels::put_joined(rt, alloc, rows, second),
+        ),
+        Question::Draft => drafts::answer_draft(rt, bytes),
     }
 }
 
-// Reads and answers the next case; answers whether to go on.
-fn answer_next(rt: &impl Print, input: &mut impl Read, bytes: &mut [u8]) -> io::Result<bool> {
+// The kind and the bytes of the next case, or none at the end of the input.
+fn next_case<'a>(
+    input: &mut impl Read,
+    room: &'a mut [u8; CASE_ROOM],
+) -> Result<Option<(u8, &'a [u8])>, Unanswered> {
     let mut head = [0u8; 3];
     let got = files::read_full(input, &mut head)?;
     if got == 0 {
-        return Ok(false);
+        return Ok(None);
     }
-    let size = output::pair(head[1], head[2]);
-    if got < 3 {
-        output::put_word(rt, b"CUT\n")?;
-        return Ok(false);
+    let [kind, high, low] = head;
+    let bytes = &mut room[..u16::from_be_bytes([high, low]) as usize];
+    if got < 3 || files::read_full(input, bytes)? < bytes.len() {
+        return Err(Unanswered::Cut);
     }
-    if bytes.len() < size {
-        output::put_word(rt, b"CUT\n")?;
-        return Ok(false);
-    }
-    let read = files::read_full(input, &mut bytes[..size])?;
-    if read < size {
-        output::put_word(rt, b"CUT\n")?;
-        return Ok(false);
-    }
-    let whole = answer(rt, head[0], &bytes[..size])?;
-    if !whole {
-        output::put_word(rt, b"CUT\n")?;
-    }
-    Ok(whole)
+    Ok(Some((kind, bytes)))
 }
 
-// A proved loop has to end, so this one counts its turns, up to a number that no run reaches.
-fn main(rt: HostRuntime) -> io::Result<()> {
-    let mut bytes = [0u8; 65536];
+// Answers one case after the other. A proved loop has to end, so this one counts its turns, up to a number that no run
+// reaches.
+fn answer_all(rt: &impl Print, alloc: Global, input: &mut impl Read) -> Result<(), Unanswered> {
+    let mut room = [0u8; CASE_ROOM];
     for _ in 0..u64::MAX {
-        if !answer_next(&rt, &mut rt.stdin(), &mut bytes)? {
+        let Some((kind, bytes)) = next_case(input, &mut room)? else {
             break;
-        }
+        };
+        answer(rt, alloc, Question::try_from(kind)?, bytes)?;
     }
     Ok(())
+}
+
+fn main(rt: HostRuntime) -> io::Result<()> {
+    match answer_all(&rt, rt.alloc(), &mut rt.stdin()) {
+        Ok(()) => Ok(()),
+        Err(Unanswered::Cut) => println!(rt; "CUT"),
+        Err(Unanswered::Failed(error)) => Err(error),
+    }
 }

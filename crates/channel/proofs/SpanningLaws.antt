@@ -5,13 +5,12 @@ use Rattle.std.proofs.Common.{arith, sym, ◌∙◌, ⊎_elim}
 use Rattle.std.proofs.Math.Path.{ap}
 use mathlib.Core.List.{List, [], ◌∷◌, Memᴰ}
 use Rattle.std.proofs.Math.ListN.{replicate}
-use Rattle.std.proofs.lemmas.List.{length-replicate}
+use Rattle.std.proofs.lemmas.List.{length-replicate, take-replicate}
 use Rattle.lists.specs.Lists.{keep, up_to, last_or, greatest}
 use Rattle.lists.specs.Members.{keep-member, kept, up_to-member, in-up_to}
 use Rattle.lists.specs.Ends.{from-rising, keep-rising}
 use Rattle.lists.specs.Greatest.{at≤greatest, greatest≤}
 use Rattle.lists.specs.Pigeonhole.{length-keep}
-use Rattle.lists.specs.Counts.{take-zeros}
 use Rattle.lists.specs.Arrays.{length-map-from, get_or-numbered}
 use Rattle.lists.specs.Unique.{rising-unique}
 use Rattle.items.specs.Order.{by_number, sorted_by, Sortable}
@@ -103,7 +102,7 @@ no_counts w = take (w + 1) (replicate 513 0)
 module _ (w : ℕ) (narrow : w ≤ widest) where
   no-counts : no_counts w ≡ replicate (w + 1) 0
   unfolding no_counts
-  no-counts = take-zeros (w + 1) 513 (omega arith)
+  no-counts = take-replicate (w + 1) 513 0 (omega arith)
 
   pub counts-long : length (no_counts w) ≡ w + 1
   counts-long = rw no-counts (length-replicate {A = ℕ} (w + 1) 0)

@@ -42,6 +42,10 @@ rows_answer ch = ok_unless (rows_refusal ch) tt
 abbrev pub rows_told : Result (Unit {0}) Refusal → Told
 rows_told = told (λ _. [])
 
+-- the channel itself where its rows are accepted
+unfoldable pub accepted : Channel → Result Channel Refusal
+accepted ch = ok_unless (rows_refusal ch) ch
+
 abbrev pub bounds_of : Channel → LowerBounds
 bounds_of ch = record { density = density ch; chain = chain ch }
 

@@ -3,7 +3,7 @@
 use Rattle.std.specs.Prelude.{ℕ, suc, ◌+◌, ◌-◌, ◌≤◌, ◌<◌, ◌≡◌, List, ◌++◌, get_or, replicate, ltb, eqb, find, Some, None}
 use native.Mathlib.Omega.{arith}
 use Rattle.std.proofs.Math.Decide.{dec_le}
-use Rattle.std.proofs.Common.{sym, ◌∙◌, ltb→lt, lt→ltb}
+use Rattle.std.proofs.Common.{sym, ◌∙◌, ⊎_elim, ltb→lt, lt→ltb}
 use Rattle.std.proofs.Math.Path.{ap, subst}
 use Rattle.std.proofs.Math.ListN.{length, length-append}
 use Rattle.std.proofs.lemmas.List.{length-replicate}
@@ -11,6 +11,7 @@ use Rattle.std.proofs.Math.Dec.{T}
 use Rattle.lists.specs.Lists.{at, up_to, head_or}
 use Rattle.lists.specs.Firsts.{Passing}
 use Rattle.lists.specs.Ends.{at_suc}
+use Rattle.lists.specs.Tests.{equal?}
 use Rattle.lists.specs.Pigeonhole.{length-keep}
 use Rattle.lists.specs.Places.{at_left, at_right}
 use Rattle.lists.specs.Tallies.{first_of, length-keep-append, first-is, first-none, is-first, none_first}
@@ -67,6 +68,14 @@ none-high row e k inside =
           absurd (none_first (high row) (length row) e (suc k)
           (record { low = omega arith; high = omega arith; passes = high-at row k (omega arith) }))
     ]
+
+-- the first high number stands within the row
+pub first-high-most : (row : List ℕ) → first_high row ≤ length row
+unfolding first_high
+first-high-most row =
+    ⊎_elim (λ e. omega arith) (λ some. let h = (is-first (high row) (length row) some).holds in let u = h.high in
+    omega arith)
+    (equal? (first_of (high row) (length row)) 0)
 
 -- the counts before any pin is counted
 unfoldable pub zeros : List ℕ

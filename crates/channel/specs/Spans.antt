@@ -2,6 +2,7 @@
 use Rattle.std.specs.Prelude.{ℕ, ◌≡◌, List, map, cond, get_or, set, eqb}
 use Rattle.lists.specs.Lists.{keep, from}
 use Rattle.channel.specs.Channel.{Channel, first_column, last_column, spanning}
+use Rattle.channel.specs.Parked.{NetsOnly}
 
 -- what a definition gives for each number from 0 to 511
 abbrev pub each512 : (ℕ → ℕ) → List ℕ
@@ -25,6 +26,12 @@ spans first last = record { first = first; last = last }
 pub record SpansFound (ch : Channel) (s : Spans) : Type 0 where
   pub first : s.first ≡ firsts ch
   pub last : s.last ≡ lasts ch
+
+-- the tables of numbers are those of a channel whose rows show nets only
+pub record ColumnsFound (ch : Channel) (first last : List ℕ) : Type 0 where
+  pub only : NetsOnly ch
+  pub on_first : first ≡ firsts ch
+  pub on_last : last ≡ lasts ch
 
 -- the first columns with column c noted for number n, which keeps an earlier one
 unfoldable pub first_noted : List ℕ → ℕ → ℕ → List ℕ

@@ -8,15 +8,16 @@ mod spanning;
 mod spans;
 
 pub use lower_bounds::bounds;
-pub use parked::{has_parked, remove_parked};
-pub use rows::check;
-pub use spanning::{highest_number, list_spanning};
-pub use spans::find_columns;
+pub use parked::{Nets, remove_parked};
+pub use rows::{Rows, check};
+pub use spanning::highest_number;
+pub use spans::{Columns, find_columns};
 
 // The bounds of a channel.
 #[derive(Clone, Copy, Debug, PartialEq, Eq)]
 pub struct LowerBounds {
     pub density: u32,
     // 0 where the channel is tangled
+    // 0 and no None: docs/SCOPE.md has a tangled channel answer chain 0, and C gets it so
     pub chain: u32,
 }

@@ -7,6 +7,7 @@ ghost use Rattle.classes.specs.Forest.{second_of, noted};
 use crate::halves::{high, low, number};
 
 // Puts an element in front of a line's chain.
+#[tactic(auto, using(crate::specs::Halves::low_small), unfolding(crate::specs::Forest::noted))]
 pub fn push(heads: &mut [u32], forest: &mut [u32], line: usize, i: usize)
     requires { (line < length heads.old)
         × (i < length forest.old)
@@ -19,7 +20,9 @@ pub fn push(heads: &mut [u32], forest: &mut [u32], line: usize, i: usize)
     heads[line] = i as u32 + 1;
 }
 
-// The element after i in its chain, counted from 1, or 0.
+// The element after i in its chain, counted from 1, or 0. It is no Option, since the heads and the halves that are lent
+// hold the same numbers, and 0 ends a chain there too.
+#[tactic(auto, unfolding(crate::specs::Forest::second_of))]
 pub fn next(forest: &[u32], i: usize) -> usize
     requires { i < length forest.now }
     ensures { result ≡ second_of forest.now i }

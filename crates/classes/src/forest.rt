@@ -18,6 +18,7 @@ pub fn alone(forest: &mut [u32])
 }
 
 // Hangs an element under another.
+#[tactic(auto, unfolding(crate::specs::Forest::hung, crate::specs::Halves::high_half))]
 fn hang(forest: &mut [u32], child: usize, parent: usize)
     requires { (child < length forest.old) × (parent < half) }
     ensures { forest.new ≡ hung forest.old child parent }
@@ -26,6 +27,7 @@ fn hang(forest: &mut [u32], child: usize, parent: usize)
 }
 
 // The parent of an element.
+#[tactic(auto, unfolding(crate::specs::Forest::parent_of))]
 fn parent(forest: &[u32], i: usize) -> usize
     requires { i < length forest.now }
     ensures { result ≡ parent_of forest.now i }
@@ -33,7 +35,8 @@ fn parent(forest: &[u32], i: usize) -> usize
     low(forest[i]) as usize
 }
 
-// The root of an element's class. Each element on the way that has a grandparent is hung under it.
+// The root of an element's class. Each element on the way that has a grandparent is hung under it. A `while`, since the
+// next place is read from the forest.
 fn find(forest: &mut [u32], i: usize) -> usize
     requires { Forest forest.old × (i < length forest.old) }
     ensures { (result ≡ root_of forest.old i) × Kept forest.old forest.new }

@@ -19,10 +19,11 @@ fn meet(forest: &mut [u32], first: u32, start: u32, second: u32) -> u32
     if start < high(first) {
         join(forest, low(first) as usize, low(second) as usize);
     }
-    if first < second { second } else { first }
+    first.max(second)
 }
 
 // Enters the range of an element, from `start` to before `past`.
+// 0 where none starts: docs/PROMISES.md names `enter` and `sweep` over places lent as numbers.
 pub fn enter(starts: &mut [u32], forest: &mut [u32], element: usize, start: usize, past: u32)
     requires { Sweepable starts.old forest.old
         × (element < length forest.old)

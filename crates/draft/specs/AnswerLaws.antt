@@ -1,5 +1,8 @@
 -- The refusals of the calls, case by case, and that the place of each is the net number or the length of a draft.
-use Rattle.std.specs.Prelude.{ℕ, ◌≤◌, ◌<◌, ◌≡◌, List, Bool, true, false, length}
+use Rattle.std.specs.Prelude.{ℕ, ◌≤◌, ◌<◌, ◌≡◌, List, Bool, true, false, length, Result, Ok, Err, Some, None}
+use Rattle.std.specs.Prelude as prelude
+use Rattle.std.specs.Option.{ok_or}
+use Rattle.std.specs.Result.{IsErrAnd}
 use Rattle.std.proofs.Common.{arith, sym, ◌∙◌, subst, ⊎_elim, lt-ltb, le-ltb}
 use Rattle.std.proofs.Math.Decide.{dec_lt}
 use Rattle.std.proofs.Math.Option.{Option, none, some, none-ne-some, some-injective}
@@ -7,11 +10,17 @@ use Rattle.lists.specs.Lists.{keep}
 use Rattle.refusal.specs.declared.Refusal.{Refusal}
 use Rattle.refusal.specs.declared.Refusal.TheVariants.{ShortTray, BadSpan, AlreadyHere, NotHere}
 use Rattle.refusal.specs.Refusals.{place_of, refuse_if, refuse_at_first, ◌or_else◌}
-use Rattle.refusal.specs.ChainLaws.{or_else_some, refuse-if-some}
+use Rattle.refusal.specs.ChainLaws.{handed-on, or_else_some, refuse-if-some}
 use Rattle.refusal.specs.Trays.{draft_tray, short_tray}
 use Rattle.draft.specs.Marks.{LongDraft, is_here}
 use Rattle.draft.specs.Answers.{good_number, good_span, short_draft, arrival_refusal, leaving_refusal}
 use Rattle.draft.specs.Answers.{arrive_refusal, leave_refusal}
+
+-- what `?` hands on where there was no value is the refusal that stood for it
+pub none-handed : {A B : Type 0} (a : Result A Refusal) (found : prelude.Option B) {r q : Refusal}
+    → IsErrAnd a (λ s. s ≡ r) → Err r ≡ ok_or found q → a ≡ Err q
+none-handed a None h e = handed-on a h ∙ cc
+none-handed a (Some x) h e = absurd cc
 
 -- refusal 1
 pub long-silent : (words : List ℕ) → LongDraft words → short_draft words ≡ none

@@ -69,6 +69,18 @@ module _ (n first last i : ℕ) where
   →word : i % 8 ≡ n / 64 → first ≤ i / 8 + 1 → i / 8 + 1 ≤ last → T (is_word_of n first last i)
   →word e low high = and_both own over (eq→T (i % 8) (n / 64) e) (→within first (i / 8 + 1) last low high)
 
+-- the word and the digit of a net's mark in column c tell whether it is marked there
+pub mark-read : (words : List ℕ) (n c : ℕ) {word digit : ℕ} → (word ≡ word_of c n) × (digit ≡ n % 64)
+    → is_set (get_or words word 0) digit ≡ marked words c n
+unfolding marked
+mark-read words n c at = rw (at.0, at.1) refl
+
+-- and a change of that digit is one of the net's word there
+pub mark-changed : (f : ℕ → ℕ → ℕ) (words : List ℕ) (n c : ℕ) {word digit : ℕ}
+    → (word ≡ word_of c n) × (digit ≡ n % 64)
+    → set words word (f digit (get_or words word 0)) ≡ changed_at (f (n % 64)) n c words
+mark-changed f words n c at = rw (at.0, at.1) refl
+
 -- the words that are changed, and those that are not
 module _ (f : ℕ → ℕ) (n first : ℕ) (words : List ℕ) where
   abbrev word : ℕ → ℕ → ℕ

@@ -42,6 +42,9 @@ good-fits n first last t =
       ends = leb→le last widest (and_right (ltb first last) (leb last widest) later);
     }
 
+pub span-fits : (n first last : ℕ) → good_span n first last ≡ true → Fits (net_of n first last)
+span-fits n first last good = good-fits n first last (true→T (good_span n first last) good)
+
 -- refusal 21 comes first: whether the net is here matters only where 21 is silent
 after-good : (good : Bool) (r : Refusal) (later later' : Option Refusal) → (T good → later ≡ later')
     → (refuse_if (not good) r or_else later) ≡ (refuse_if (not good) r or_else later')

@@ -9,4 +9,5 @@ pub mod CountLaws
 pub mod NetLaws
 pub mod HistoryLaws
 pub mod CodeLaws
+pub mod FrontLaws
 pub mod DoneLaws

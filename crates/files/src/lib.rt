@@ -11,6 +11,7 @@ use std::rt::Files;
 
 // Reads to the end, or as far as there is room, and answers how many bytes there are. A read that fails is answered as
 // its error; what was read before it then stands at the front of `bytes`.
+// Lent room and an answered count, as `read` of the library has them.
 pub fn read_full<R: Read>(reader: &mut R, bytes: &mut [u8]) -> io::Result<usize>
     ensures prefix_len { IfOk result (λ n. IsPrefixLen n bytes.new) }
     ensures read { IfOk result (λ n. Consumes (R.remaining reader.old) (R.remaining reader.new) (take n bytes.new)) }
@@ -18,6 +19,8 @@ pub fn read_full<R: Read>(reader: &mut R, bytes: &mut [u8]) -> io::Result<usize>
     ensures failed { IfErr result (λ _. (n : ℕ) × (n ≤ length bytes.new)
         × Consumes (R.remaining reader.old) (R.remaining reader.new) (take n bytes.new)) }
 {
+    // a `while`: each step is as long as the reader makes it, and std has no call that fills a lent buffer as far as the
+    // reader goes and answers how many bytes came (`read_exact` fails at the end)
     let mut done = 0;
     while done < bytes.len() {
         let n = reader.read(&mut bytes[done..])?;

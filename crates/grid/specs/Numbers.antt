@@ -1,5 +1,7 @@
 -- The numbers of a table of columns or of tracks: what stands at a place, and what a store there changes.
-use Rattle.std.specs.Prelude.{ℕ, ◌≡◌, refl, List, map, length, get_or, set, replicate}
+use Rattle.std.specs.Prelude.{ℕ, ◌≡◌, refl, Bool, true, false, cond, ltb, eqb, List, map, length, get_or, set, replicate}
+use Rattle.std.specs.Ordering.{is_lt, nat_cmp}
+use Rattle.std.proofs.Common.{Less, Equal, Greater}
 use Rattle.std.proofs.lemmas.List.{map-set, length-map}
 use Rattle.std.proofs.Math.ListN.{get_or-map}
 use Rattle.grid.specs.declared.Track.{Track}
@@ -35,6 +37,15 @@ track-set ks n k = map-set (λ (k : Track). k.0) ks n k
 pub tracks-long : (ks : List Track) → length (track_numbers ks) ≡ length ks
 unfolding track_numbers
 tracks-long ks = length-map ks (λ (k : Track). k.0)
+
+-- what `<` answers of two columns, tracks, rows or nets, of their numbers
+pub order-lt : (a b : ℕ) → is_lt (nat_cmp a b) ≡ ltb a b
+order-lt a b = go (ltb a b) (eqb a b)
+  where
+    go : (less same : Bool) → is_lt (cond less Less (cond same Equal Greater)) ≡ less
+    go true same = refl
+    go false true = refl
+    go false false = refl
 
 -- tables that hold 0 everywhere
 pub columns-none : column_numbers (replicate 512 (column 0)) ≡ replicate 512 0

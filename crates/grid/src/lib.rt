@@ -16,27 +16,29 @@ pub const NET_SLOTS: usize = NETS + 1;
 // a table by column has a place for each column and one for 0, which is no column
 pub const COLUMN_SLOTS: usize = WIDEST + 1;
 
-// The kinds of copper, as the board file numbers them.
+// The kinds of copper, as the board file numbers them. Numbers, and no enum: a word's field may be none of them, and
+// what docs/PROMISES.md names of `kinds_meet` is said of any two numbers.
 pub const TRUNK: u32 = 0;
 
 pub const BRANCH: u32 = 1;
 
 pub const CONTACT: u32 = 2;
 
-#[derive(Clone, Copy)]
+#[derive(Clone, Copy, Debug, PartialEq, Eq, PartialOrd, Ord)]
 pub struct Column(pub u32);
 
-#[derive(Clone, Copy)]
+#[derive(Clone, Copy, Debug, PartialEq, Eq, PartialOrd, Ord)]
 pub struct Track(pub u32);
 
 // Rows are 0 to tracks + 1: BOT pins stand in row 0, TOP pins in the last row, track k is row k.
-#[derive(Clone, Copy)]
+#[derive(Clone, Copy, Debug, PartialEq, Eq, PartialOrd, Ord)]
 pub struct Row(pub u32);
 
-#[derive(Clone, Copy)]
+// No limit in the type: C hands over any number, and a tuple struct, named in docs/SCOPE.md, has no ghost.
+#[derive(Clone, Copy, Debug, PartialEq, Eq, PartialOrd, Ord)]
 pub struct Net(pub u32);
 
-#[derive(Clone, Copy)]
+#[derive(Clone, Copy, Debug, PartialEq, Eq)]
 pub enum Piece {
     // copper along a track, on the trunk side
     Trunk {

@@ -6,6 +6,8 @@ ghost use Rattle.lists.specs.Lists.{at, keep, overlay};
 ghost use Rattle.items.specs.Chains.{Chained};
 ghost use Rattle.items.specs.Depths.{Peeled, PeelLeft, StepsCounted, Peelable, CanPeel, PeelDone};
 
+use crate::links::{Links, linked_from};
+
 // The items with nothing below them, at the front of `queue`; answers how many there are.
 fn queue_lowest(items: &[u32], under: &[u16], queue: &mut [u32]) -> usize
     requires { (length items.now ≤ length queue.old)
@@ -15,6 +17,7 @@ fn queue_lowest(items: &[u32], under: &[u16], queue: &mut [u32]) -> usize
         ≡ overlay (keep (λ n. eqb (get_or under.now n 0) 0) items.now) queue.old) }
 {
     let mut queued: usize = 0;
+    // a chain of `filter` would write the queue in a loop all the same, and be no plainer
     for &n in items {
         if under[n as usize] == 0 {
             queue[queued] = n;
@@ -24,27 +27,25 @@ fn queue_lowest(items: &[u32], under: &[u16], queue: &mut [u32]) -> usize
     queued
 }
 
-// Lowers the count of the upper item of each place linked from `start`; those with nothing left below go behind the
+// Lowers the count of the upper item of each linked place; those with nothing left below go behind the
 // first `queued` of the queue. Answers how many there are then.
+// The queue is a lent slice and a count: `longest_chain`, named in docs/PROMISES.md, is lent it (`PeelLeft`).
 fn peel_above(
     upper: &[u32],
-    next: &[u16],
-    start: u16,
+    linked: Links<'_>,
     under: &mut [u16],
     queue: &mut [u32],
     mut queued: usize,
 ) -> usize
-    requires { CanPeel upper.now next.now start under.old queue.old queued }
-    ensures { (cs : List ℕ) → Chained next.now start cs
+    requires { CanPeel upper.now linked.links.now linked.at under.old queue.old queued }
+    ensures { (cs : List ℕ) → Chained linked.entry.links.now linked.entry.at cs
         → PeelDone (map (at upper.now) cs) under.old queue.old queued
         under.new queue.new result }
 {
-    let mut c = start as usize;
-    while c != 0 {
+    for c in linked {
         let a = upper[c - 1] as usize;
         let left = under[a] - 1;
         under[a] = left;
-        c = next[c] as usize;
         if left == 0 {
             queue[queued] = a as u32;
             queued += 1;
@@ -55,6 +56,7 @@ fn peel_above(
 
 // The most items on a path down, 0 where an item is never peeled: it is on a ring, or above one. Each step is gone down
 // once; the items peeled are left in the front of `queue`, and in `under` how many below each item are not.
+// 0 and no None for a tangled list, and six slices: docs/PROMISES.md names it so (`Peelable`, `Peeled`).
 pub fn longest_chain(
     items: &[u32],
     upper: &[u32],
@@ -74,13 +76,14 @@ pub fn longest_chain(
     let mut done: usize = 0;
     let mut level: usize = 0;
     let mut levels: u32 = 0;
+    // a `while`: the queue grows while it is gone along
     while done < queued {
         if done == level {
             level = queued;
             levels += 1;
         }
         let n = queue[done] as usize;
-        queued = peel_above(upper, next, head[n], under, queue, queued);
+        queued = peel_above(upper, linked_from(next, head[n]), under, queue, queued);
         done += 1;
     }
     if queued == items.len() { levels } else { 0 }

@@ -39,6 +39,7 @@ fn sweep(starts: &[u32], ends: &[u32]) -> u32
 
 // The density of items from their first and last columns. `starts` and `ends` have a place for each column and one for
 // 0, all of them 0, and are left with the counts.
+// Two tables and none of pairs: docs/PROMISES.md names this function over tables lent so (`Spanned`).
 pub fn greatest_density(
     items: &[u32],
     first: &[Column],

@@ -4,6 +4,7 @@
 
 mod chain;
 mod density;
+mod links;
 mod order;
 mod steps;
 

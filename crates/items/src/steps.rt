@@ -5,6 +5,8 @@ ghost use Rattle.lists.specs.Counts.{lowered};
 ghost use Rattle.items.specs.Chains.{Chained};
 ghost use Rattle.items.specs.Steps.{StepRows, StepsLinked, CanLower};
 
+use crate::links::linked_from;
+
 // Links the places of two rows in which an item stands below another, and counts the steps down from each item.
 pub fn link_steps(
     upper: &[u32],
@@ -34,10 +36,8 @@ pub fn lower_above(upper: &[u32], next: &[u16], start: u16, under: &mut [u16])
     ensures { (cs : List ℕ) → Chained next.now start cs
         → under.new ≡ lowered (map (at upper.now) cs) under.old }
 {
-    let mut c = start as usize;
-    while c != 0 {
+    for c in linked_from(next, start) {
         let a = upper[c - 1] as usize;
         under[a] -= 1;
-        c = next[c] as usize;
     }
 }

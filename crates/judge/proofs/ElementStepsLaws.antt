@@ -1,9 +1,9 @@
 -- The judging of a board's elements, part by part: each alone, joined on columns and then on tracks, each number its
 -- root, and what is found by the roots.
 use Prim.Native.Nat.{ℕ, zero, suc, ◌+◌, ◌≤◌, ◌<◌}
-use Rattle.std.proofs.Common.{arith, sym, ◌∙◌, ap, length-take-le}
+use Rattle.std.proofs.Common.{arith, sym, ◌∙◌, ap}
 use Rattle.std.proofs.Math.Decide.{dec_lt}
-use Rattle.std.specs.Prelude.{◌≡◌, List, map, true, false, length, get_or, take}
+use Rattle.std.specs.Prelude.{◌≡◌, List, map, true, false, length, get_or}
 use Rattle.std.proofs.Math.Path.{refl}
 use Rattle.std.proofs.Math.ListN.{get_or-map, get_or-eq_default}
 use Rattle.lists.specs.Lists.{from}
@@ -27,7 +27,6 @@ use Rattle.judge.proofs.FitLaws.{file-small, fits-columns, fits-tracks}
 use Rattle.judge.proofs.PlaceMarks.{file-pieces, mark→root, root→mark}
 use Rattle.judge.specs.FaultSteps.{marks_in, owners_in, FaultReady, Finds, found_of}
 use Rattle.judge.proofs.FaultStepsLaws.{mark-at}
-use Rattle.judge.specs.ElementSteps.{ElementsReady, PiecesReady}
 
 -- there are at most 1,024 pin places and 4,095 pieces
 pub elements-few : (ch : Channel) (board : List ℕ) (t : ℕ) → Judgeable ch board t
@@ -36,44 +35,30 @@ elements-few ch board t ok =
     let f = file-small ch board t ok in let w = ok.escapes.narrow in omega arith
 
 -- the front of scratch has a number for each
-module _ {ch : Channel} {board : List ℕ} {t n : ℕ} {scratch : List ℕ} (ready : PiecesReady ch board t n scratch) where
-  pub front_fits : (width ch + width ch + n ≤ length scratch) × (width ch + width ch + n ≤ scratch_tray)
-  front_fits =
-      let few = elements-few ch board t ready.judgeable in
-      let e = ready.count in
-      let room = ready.room in
-      omega arith
+pub front-fits : (ch : Channel) (board : List ℕ) (t n : ℕ) → Judgeable ch board t → n ≡ file_count board
+    → width ch + width ch + n ≤ scratch_tray
+front-fits ch board t n ok e = let few = elements-few ch board t ok in omega arith
 
-  pub front-ready : ElementsReady ch board t (take (width ch + width ch + n) scratch)
-  front-ready =
-      record {
-        judgeable = ready.judgeable;
-        count =
-            length-take-le (width ch + width ch + n) scratch front_fits.0
-            ∙ ap (λ (k : ℕ). width ch + width ch + k) ready.count;
-      }
-
-module _ (ch : Channel) (board : List ℕ) (t : ℕ) (s₀ s : List ℕ) (ready : ElementsReady ch board t s₀)
-    (numbers : s ≡ from 0 (length s₀)) where
+module _ (ch : Channel) (board : List ℕ) (t : ℕ) (s₀ s : List ℕ) (ok : Judgeable ch board t)
+    (count : length s₀ ≡ width ch + width ch + file_count board) (numbers : s ≡ from 0 (length s₀)) where
   alone-size : length s ≡ length s₀
   alone-size = ap length numbers ∙ length_from 0 (length s₀)
 
   alone-all : Forest s × ((i : ℕ) → i < length s₀ → root_of s i ≡ i)
   alone-all =
-      let few = elements-few ch board t ready.judgeable in
-      let n = ready.count in
+      let few = elements-few ch board t ok in
+      let n = count in
       alone-forest (length s₀) s (omega arith) alone-size numbers
 
   -- the columns are joined, of rows 0 to t + 1
   pub columns-ready : (lines places : ℕ) → lines ≡ width ch + 1 → places ≡ t + 2
-      → JoinReady ch board t false lines places s
+      → JoinReady (record { channel = ch; board = board; tracks = t }) false lines places s
   columns-ready lines places el ep =
-      let ok = ready.judgeable in
-      let n = ready.count in
+      let n = count in
       let z = alone-size in
       let f = file-small ch board t ok in
       record {
-        elements = record { judgeable = ok; count = z ∙ n; forest = alone-all.0 };
+        elements = record { count = z ∙ n; some = let w = ok.escapes.wide in omega arith; forest = alone-all.0 };
         fits = rw (el, ep, z, n) (fits-columns ch board t ok);
         some = omega arith;
         few = let w = ok.escapes.narrow in omega arith;
@@ -82,14 +67,13 @@ module _ (ch : Channel) (board : List ℕ) (t : ℕ) (s₀ s : List ℕ) (ready 
   module _ (s₁ : List ℕ) (columns : AllJoined (range_on false ch t board) s s₁) where
     -- then the tracks, of columns 0 to w
     pub tracks_ready : (lines places : ℕ) → lines ≡ t + 1 → places ≡ width ch + 1
-        → JoinReady ch board t true lines places s₁
+        → JoinReady (record { channel = ch; board = board; tracks = t }) true lines places s₁
     tracks_ready lines places el ep =
-        let ok = ready.judgeable in
-        let n = ready.count in
+        let n = count in
         let z = columns.size ∙ alone-size in
         let f = file-small ch board t ok in
         record {
-          elements = record { judgeable = ok; count = z ∙ n; forest = columns.forest };
+          elements = record { count = z ∙ n; some = let w = ok.escapes.wide in omega arith; forest = columns.forest };
           fits = rw (el, ep, z, n) (fits-tracks ch board t ok);
           some = omega arith;
           few = let w = ok.escapes.narrow in omega arith;
@@ -104,7 +88,7 @@ module _ (ch : Channel) (board : List ℕ) (t : ℕ) (s₀ s : List ℕ) (ready 
       flat-size = ap length roots ∙ length-map-from (root_of s₂) (length s₂) ∙ size
 
       small : length s₀ ≤ half
-      small = let few = elements-few ch board t ready.judgeable in let n = ready.count in omega arith
+      small = let few = elements-few ch board t ok in let n = count in omega arith
 
       -- the number of an element is its root, which is not above it
       flat-at : (i : ℕ) → i < length s₀ → (get_or flat i 0 ≡ root_of s₂ i) × (get_or flat i 0 ≤ i)
@@ -121,12 +105,11 @@ module _ (ch : Channel) (board : List ℕ) (t : ℕ) (s₀ s : List ℕ) (ready 
           let f = flat-at i l in
           mark-at flat i (omega arith) ∙ ap (λ (v : ℕ). v + 1) (low_same (get_or flat i 0) (omega arith) ∙ f.0)
 
-      pub flat-ready : FaultReady ch.top ch.bot flat
+      pub flat-ready : FaultReady ch flat
       flat-ready =
           let z = flat-size in
-          let n = ready.count in
+          let n = count in
           record {
-            escapes = ready.judgeable.escapes;
             long = omega arith;
             small = let k = small in omega arith;
             marked = λ i l. let m = flat-mark i (omega arith) in let f = flat-at i (omega arith) in omega arith;
@@ -152,15 +135,15 @@ module _ (ch : Channel) (board : List ℕ) (t : ℕ) (s₀ s : List ℕ) (ready 
           (marks ch (file_layout board))
       same-marks =
           let p = file-pieces board in
-          let n = ready.count in
+          let n = count in
           record {
             there =
                 λ i j li lj e. let a = flat-mark i (omega arith) in let b = flat-mark j (omega arith) in
-                root→mark ch board t ready.judgeable s s₁ s₂ (alone-size ∙ n)
+                root→mark ch board t ok s s₁ s₂ (alone-size ∙ n)
                 (λ k lk. alone-all.1 k (omega arith)) columns tracks i j (omega arith) (omega arith) (omega arith);
             back =
                 λ i j li lj e. let a = flat-mark i (omega arith) in let b = flat-mark j (omega arith) in
-                let r = mark→root ch board t ready.judgeable s s₁ s₂ (alone-size ∙ n)
+                let r = mark→root ch board t ok s s₁ s₂ (alone-size ∙ n)
                 (λ k lk. alone-all.1 k (omega arith)) columns tracks i j (omega arith) (omega arith) e in omega arith;
           }
 
@@ -169,6 +152,6 @@ module _ (ch : Channel) (board : List ℕ) (t : ℕ) (s₀ s : List ℕ) (ready 
       found-finding r h =
           let z = flat-size in
           let p = file-pieces board in
-          let n = ready.count in
+          let n = count in
           h (file_layout board) (omega arith) ∙ ap found_of
-          (sym (same-finding ch (file_layout board) ready.judgeable.escapes (marks_in flat) same-marks))
+          (sym (same-finding ch (file_layout board) ok.escapes (marks_in flat) same-marks))

@@ -8,10 +8,7 @@ use Rattle.classes.specs.Sweep.{Sweepable, Enters}
 use Rattle.classes.specs.Lines.{last_on, Entered}
 use Rattle.classes.specs.ChainLaws.{last_on_lem, none_between, last-below}
 use Rattle.classes.specs.LineLaws.{entered-none, entered-next, entered-skip, entered-sweepable}
-use Rattle.channel.specs.Channel.{Channel}
-use Rattle.judge.specs.Ranges.{range_on, PlaceReady}
-use Rattle.judge.specs.LineSteps.{LineReady}
-use Rattle.judge.proofs.FitLaws.{place-ready}
+use Rattle.judge.specs.LineSteps.{Case, elements, ranges, LineReady}
 
 -- line l's elements from `after` on are entered, and the one before it, if there is one, is of the line too
 pub record Entering (R : ℕ → Range) (l after : ℕ) (starts₀ starts s₀ s : List ℕ) : Type 0 where
@@ -36,30 +33,28 @@ at_last R l x after starts₀ starts s₀ s h size t q =
       here = λ e p. let k = last_on_lem R l x e (sym q ∙ p) in (k.0, omega (arith, k.1));
     }
 
-module _ {ch : Channel} {board : List ℕ} {t : ℕ} {across : Bool} {heads : List ℕ} {l : ℕ} {starts₀ s₀ : List ℕ}
-    (ready : LineReady ch board t across heads l starts₀ s₀) where
+module _ {case : Case} {across : Bool} {heads : List ℕ} {l : ℕ} {starts₀ s₀ : List ℕ}
+    (ready : LineReady case across heads l starts₀ s₀) where
   -- before the first turn: the chain's head
   pub entering-none : {after : ℕ} → after ≡ get_or heads l 0
-      → Entering (range_on across ch t board) l after starts₀ starts₀ s₀ s₀
+      → Entering (ranges across case) l after starts₀ starts₀ s₀ s₀
   entering-none {after} q =
-      let R = range_on across ch t board in
+      let R = ranges across case in
       at_last R l (length s₀) after starts₀ starts₀ s₀ s₀ (omega arith) (omega arith)
       (entered-none R l starts₀ s₀ ready.elements.forest ready.blank)
       (q ∙ ready.chained.firsts l ready.real.1)
 
-  module _ {starts s : List ℕ} {after : ℕ} (h : Entering (range_on across ch t board) l after starts₀ starts s₀ s)
+  module _ {starts s : List ℕ} {after : ℕ} (h : Entering (ranges across case) l after starts₀ starts s₀ s)
       (some : 0 < after) where
     -- the element before `after`
-    on_line : ((range_on across ch t board (after - 1)).line ≡ l) × (after - 1 < length s₀)
+    on_line : ((ranges across case (after - 1)).line ≡ l) × (after - 1 < length s₀)
     on_line = h.here (after - 1) (omega arith)
 
-    -- what `range_on` and `enter` ask of it
-    pub entering-place : PlaceReady ch.top ch.bot board t (after - 1)
-    entering-place =
-        let c = ready.elements.count in
-        place-ready ch board t (after - 1) ready.elements.judgeable (omega (arith, on_line))
+    -- what `range_of` and `enter` ask of it
+    pub entering-place : after - 1 < elements case
+    entering-place = let c = ready.elements.count in omega (arith, on_line)
 
-    pub entering-ready : {r : Range} → r ≡ range_on across ch t board (after - 1)
+    pub entering-ready : {r : Range} → r ≡ ranges across case (after - 1)
         → Sweepable starts s
         × (after - 1 < length s)
         × (r.start < length starts)
@@ -74,7 +69,7 @@ module _ {ch : Channel} {board : List ℕ} {t : ℕ} {across : Bool} {heads : Li
         let a = ap (λ (x : Range). x.start) q in
         let b = ap (λ (x : Range). x.past) q in
         let k = h.size in (
-          entered-sweepable (range_on across ch t board) l after starts s₀ s h.entered (omega arith),
+          entered-sweepable (ranges across case) l after starts s₀ s h.entered (omega arith),
           omega arith,
           omega arith,
           omega arith,
@@ -82,9 +77,9 @@ module _ {ch : Channel} {board : List ℕ} {t : ℕ} {across : Bool} {heads : Li
         )
 
     -- and after a turn
-    pub entering-next : {r : Range} {starts' s' : List ℕ} {after' : ℕ} → r ≡ range_on across ch t board (after - 1)
+    pub entering-next : {r : Range} {starts' s' : List ℕ} {after' : ℕ} → r ≡ ranges across case (after - 1)
         → Enters (after - 1) r.start r.past starts s starts' s' → after' ≡ second_of s' (after - 1)
-        → EntersNext (range_on across ch t board) l after after' starts₀ starts' s₀ s'
+        → EntersNext (ranges across case) l after after' starts₀ starts' s₀ s'
     entering-next {r} {starts'} {s'} {after'} q e n =
         let low = last-below R l i in
         let same = entered.grown.size in
@@ -95,7 +90,7 @@ module _ {ch : Channel} {board : List ℕ} {t : ℕ} {across : Bool} {heads : Li
         }
       where
         R : ℕ → Range
-        R = range_on across ch t board
+        R = ranges across case
 
         i : ℕ
         i = after - 1

@@ -14,7 +14,7 @@ use Rattle.wiring.specs.Pins.{Pin, top, bot, column_of, row_of, net_of, pin_at}
 use Rattle.wiring.specs.Layouts.{Element, pin, copper}
 use Rattle.boardfile.specs.Open.{word_at, fields_of, word_right, piece_of, file_width, file_tracks, file_count}
 use Rattle.boardfile.specs.FieldLaws.{header-small, opened}
-use Rattle.judge.specs.Ranges.{in_column, on_track, element_at, range_on, PlaceReady}
+use Rattle.judge.specs.Ranges.{in_column, on_track, element_at, range_on}
 use Rattle.judge.specs.LineSteps.{Judgeable}
 
 -- a board's tracks and pieces are few, and its file is as long as its pieces ask
@@ -25,13 +25,6 @@ file-small ch board t j =
     let s = header-small (word_at board 0) in
     let e = j.tracks in
     (omega arith, s.1, (opened board j.opens).long)
-
--- element i's word can be read
-pub place-ready : (ch : Channel) (board : List ℕ) (t i : ℕ) → Judgeable ch board t
-    → i < width ch + width ch + file_count board → PlaceReady ch.top ch.bot board t i
-place-ready ch board t i j h =
-    let s = file-small ch board t j in
-    record { even = j.escapes.even; narrow = j.escapes.narrow; low = s.0; read = λ k. omega arith }
 
 -- the piece of each word of the file lies on the grid
 pub word-on-grid : (ch : Channel) (board : List ℕ) (t j : ℕ) → Judgeable ch board t → j < file_count board

@@ -19,7 +19,7 @@ use Rattle.channel.specs.Channel.{Channel, width}
 use Rattle.channel.specs.Answers.{rows_refusal, rows_answer}
 use Rattle.channel.proofs.EscapeLaws.{accepted-exactly}
 use Rattle.boardfile.specs.declared.Board.{Board}
-use Rattle.boardfile.specs.Open.{file_width, file_tracks, file_layout, open_refusal, board_of, open_answer}
+use Rattle.boardfile.specs.Open.{file_width, file_tracks, file_count, file_layout, open_refusal, board_of, open_answer}
 use Rattle.judge.specs.declared.Fault.{Fault}
 use Rattle.std.specs.Prelude.{Some, None, Ok, Err}
 use Rattle.judge.specs.declared.JudgeAnswer.{JudgeAnswer}
@@ -29,7 +29,7 @@ use Rattle.judge.specs.Answers.{wrong_board, judge_refusal, judged, judge_answer
 use Rattle.judge.proofs.OnBytes.{demand2-on-bytes, places-on-bytes}
 use Rattle.judge.specs.Code.{Judged, board_refusal, board_answer}
 use Rattle.judge.specs.FaultSteps.{found_of}
-use Rattle.judge.specs.ElementSteps.{PiecesReady}
+use Rattle.judge.specs.LineSteps.{Judgeable}
 
 -- what is found, as the answer
 pub found_nothing : (t : ℕ) (o : Option Fault) → None ≡ found_of o → Good t ≡ judged t o
@@ -131,24 +131,21 @@ module _ (ch : Channel) (board : List ℕ) (n : ℕ) where
           d ∙ ap (λ (b : Board). judged b.tracks (finding ch (file_layout board))) (sym silent.1)
           ∙ sym (answered-none Refused (judge_refusal ch board n) _ (past-short ∙ silent.0))
 
-      pub pieces_ready : (scratch : List ℕ) → length scratch ≡ n → PiecesReady ch board opened.tracks opened.count scratch
+      pub case-ready : Judgeable ch board opened.tracks × (opened.count ≡ file_count board)
       unfolding wrong_board
-      pieces_ready scratch long =
+      case-ready =
           let rows-pass = or_else_none (rows_refusal ch) (open_refusal board or_else wrong_board ch board) silent.0 in
           let later = or_else_none (open_refusal board) (wrong_board ch board) rows-pass.1 in
-          let test = eqb (file_width board) (width ch) in
-          record {
-            room = omega arith;
-            judgeable =
-                record {
-                  escapes = (accepted-exactly ch).0 rows-pass.0;
-                  opens = later.0;
-                  same_width = ⊎_elim (λ t. eqb→eq (file_width board) (width ch) t)
-                      (λ f. absurd (refuse-if-none (not test) _ later.1 (not-passes test f))) (passes? test);
-                  tracks = ap (λ (b : Board). b.tracks) (sym silent.1);
-                };
-            count = ap (λ (b : Board). b.count) (sym silent.1);
-          }
+          let test = eqb (file_width board) (width ch) in (
+            record {
+              escapes = (accepted-exactly ch).0 rows-pass.0;
+              opens = later.0;
+              same_width = ⊎_elim (λ t. eqb→eq (file_width board) (width ch) t)
+                  (λ f. absurd (refuse-if-none (not test) _ later.1 (not-passes test f))) (passes? test);
+              tracks = ap (λ (b : Board). b.tracks) (sym silent.1);
+            },
+            ap (λ (b : Board). b.count) (sym silent.1),
+          )
 
 -- the answer is all that the promise asks
 pub judged-well : (ch : Channel) (board scratch scratch' : List ℕ) (r : JudgeAnswer)

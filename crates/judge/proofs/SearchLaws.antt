@@ -2,7 +2,7 @@
 -- `shorts`, `opens` and `floating`.
 use Prim.Native.Nat.{ℕ, zero, suc, ◌+◌, ◌<◌}
 use native.Mathlib.Omega.{arith}
-use Rattle.std.specs.Prelude.{◌≡◌, refl, Bool, ◌&&◌, ◌⊎◌, length, get_or, set, ltb}
+use Rattle.std.specs.Prelude.{◌≡◌, refl, Bool, ◌&&◌, ◌⊎◌, length, get_or, set, ltb, Some, None}
 use Rattle.std.proofs.Math.Path.{sym, ap, subst}
 use Rattle.std.proofs.Common.{◌∙◌, ⊎_elim, get_or-set_same, get_or-set_other, lt→ltb, eqb→eq}
 use mathlib.Core.List.{List, Memᴰ}
@@ -12,7 +12,7 @@ use Rattle.lists.specs.Lists.{keep, any_of, up_to, head_or, at, Lowest}
 use Rattle.lists.specs.Tests.{and_left, and_right, and_both, not-passes, not-fails, equal?}
 use Rattle.lists.specs.Members.{any→member, member→any, keep-member, kept, up_to-member, in-up_to}
 use Rattle.lists.specs.Places.{keep-keep}
-use Rattle.lists.specs.Tallies.{first-at, none-at}
+use Rattle.lists.specs.Finds.{find-keep, scan-found, scan-none}
 use Rattle.grid.specs.Pieces.{Layout}
 use Rattle.channel.specs.Channel.{Channel, width, positions}
 use Rattle.channel.specs.Answers.{Escapes}
@@ -21,10 +21,20 @@ use Rattle.judge.specs.Finding.{pins, first_of_net, shorts, opens, floating}
 use Rattle.judge.specs.PinPlaces.{position-net}
 use Rattle.judge.specs.FindingLaws.{first-of-net}
 use Rattle.judge.specs.Searches.{Owner, Owned}
+use Rattle.judge.specs.FaultSteps.{first_of}
 
 -- what holds before place i and there holds before the next
 next_place : (P : ℕ → Type 0) (i : ℕ) → ((k : ℕ) → k < i → P k) → P i → (k : ℕ) → k < i + 1 → P k
 next_place P i all here k l = ⊎_elim (λ e. subst P (sym e) here) (λ out. all k (omega arith)) (equal? k i)
+
+-- the first of the places 1 to n that pass a test, which is P of the place from 0
+module _ (f : ℕ → Bool) (n : ℕ) (P : ℕ → Type 0) (said : (i : ℕ) → i < n → T (f (suc i)) → P i) where
+  first-found : (i : ℕ) → i < n → T (f (suc i)) → ((k : ℕ) → k < i → P k → ⊥) → Some (i + 1) ≡ first_of (keep f (up_to n))
+  first-found i l t before =
+      scan-found f n i l t (λ k b p. before k b (said k (omega arith) p)) ∙ find-keep f (up_to n)
+
+  no-first : ((k : ℕ) → k < n → P k → ⊥) → None ≡ first_of (keep f (up_to n))
+  no-first before = scan-none f n (λ k b p. before k b (said k b p)) ∙ find-keep f (up_to n)
 
 module _ (ch : Channel) (ms : List ℕ) where
   -- the net and the mark at a position counted from 0
@@ -161,7 +171,7 @@ module _ (ch : Channel) (ms : List ℕ) where
 
   -- the pin at place i is of another net than its mark's owner
   pub short-found : (owners : List ℕ) (i : ℕ) → Owned ch ms owners i → i < places → 0 < net_at i
-      → (get_or owners (mark_at i) 0 ≡ 0 → ⊥) → (get_or owners (mark_at i) 0 ≡ net_at i → ⊥) → head_or 0 (shorts ch ms) ≡ i + 1
+      → (get_or owners (mark_at i) 0 ≡ 0 → ⊥) → (get_or owners (mark_at i) 0 ≡ net_at i → ⊥) → Some (i + 1) ≡ first_of (shorts ch ms)
   short-found owners i h l pin taken other =
       let o = h.owner (mark_at i) taken in
       let s : ShortAt i = record {
@@ -172,13 +182,12 @@ module _ (ch : Channel) (ms : List ℕ) where
         other = λ e. other (o.net ∙ e);
         same = o.mark;
       } in
-      ap (head_or 0) shorts-kept ∙ first-at (λ p. is_pin p && any_of (short_test p) (pins ch)) places ShortAt short→ i l
-      (→short i l s) (owned-apart owners i h)
+      rw shorts-kept (first-found (λ p. is_pin p && any_of (short_test p) (pins ch)) places ShortAt short→ i l
+      (→short i l s) (owned-apart owners i h))
 
-  pub no_short : (owners : List ℕ) → Owned ch ms owners places → head_or 0 (shorts ch ms) ≡ 0
-  unfolding head_or
+  pub no_short : (owners : List ℕ) → Owned ch ms owners places → None ≡ first_of (shorts ch ms)
   no_short owners h =
-      ap (head_or 0) (shorts-kept ∙ none-at (λ p. is_pin p && any_of (short_test p) (pins ch)) places ShortAt short→
+      rw shorts-kept (no-first (λ p. is_pin p && any_of (short_test p) (pins ch)) places ShortAt short→
       (owned-apart owners places h))
 
   -- the mark of the first pin of the net at place i
@@ -265,17 +274,15 @@ module _ (ch : Channel) (ms : List ℕ) where
       }
 
   pub open-found : (firsts : List ℕ) (i : ℕ) → FirstsKnown firsts i → i < places → 0 < net_at i
-      → (get_or firsts (net_at i) 0 ≡ 0 → ⊥) → (get_or firsts (net_at i) 0 ≡ mark_at i → ⊥) → head_or 0 (opens ch ms) ≡ i + 1
+      → (get_or firsts (net_at i) 0 ≡ 0 → ⊥) → (get_or firsts (net_at i) 0 ≡ mark_at i → ⊥) → Some (i + 1) ≡ first_of (opens ch ms)
   open-found firsts i h l pin met other =
       let o : OpenAt i = record { is_pin = pin; apart = λ e. other (sym (known-first firsts i h pin met) ∙ e) } in
-      ap (head_or 0) opens_kept ∙ first-at (λ p. is_pin p && open_test p) places OpenAt open→ i l (→open i o)
-      (firsts-apart firsts i h)
+      rw opens_kept (first-found (λ p. is_pin p && open_test p) places OpenAt open→ i l (→open i o)
+      (firsts-apart firsts i h))
 
-  pub no-open : (firsts : List ℕ) → FirstsKnown firsts places → head_or 0 (opens ch ms) ≡ 0
-  unfolding head_or
+  pub no-open : (firsts : List ℕ) → FirstsKnown firsts places → None ≡ first_of (opens ch ms)
   no-open firsts h =
-      ap (head_or 0) (opens_kept ∙ none-at (λ p. is_pin p && open_test p) places OpenAt open→
-      (firsts-apart firsts places h))
+      rw opens_kept (no-first (λ p. is_pin p && open_test p) places OpenAt open→ (firsts-apart firsts places h))
 
   module _ (esc : Escapes ch) (positive : (q : ℕ) → q < places → 0 < mark_at q) where
     -- the first pin of its net is its own first pin
@@ -366,13 +373,13 @@ module _ (ch : Channel) (ms : List ℕ) where
             f q (omega arith) (ltb→lt 0 (net_at q) r.1) (eqb→eq (mark_at q) (at ms (places + suc j)) t ∙ piece-mark j)
 
     pub floating-found : (j : ℕ) → j < length l.pieces → FloatingAt j → ((k : ℕ) → k < j → FloatingAt k → ⊥)
-        → head_or 0 (floating ch l ms) ≡ j + 1
+        → Some (j + 1) ≡ first_of (floating ch l ms)
     unfolding floating float_test
-    floating-found j k f before = first-at float_test (length l.pieces) FloatingAt float→ j k (→float j f) before
+    floating-found j k f before = first-found float_test (length l.pieces) FloatingAt float→ j k (→float j f) before
 
-    pub no-floating : ((k : ℕ) → k < length l.pieces → FloatingAt k → ⊥) → head_or 0 (floating ch l ms) ≡ 0
-    unfolding floating float_test head_or
-    no-floating before = ap (head_or 0) (none-at float_test (length l.pieces) FloatingAt float→ before)
+    pub no-floating : ((k : ℕ) → k < length l.pieces → FloatingAt k → ⊥) → None ≡ first_of (floating ch l ms)
+    unfolding floating float_test
+    no-floating before = no-first float_test (length l.pieces) FloatingAt float→ before
 
   -- a mark without an owner is no pin's, and one with an owner is
   pub unowned-floating : (owners : List ℕ) (j : ℕ) → Owned ch ms owners places → get_or owners (mark_at (places + j)) 0 ≡ 0

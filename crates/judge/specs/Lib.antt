@@ -16,4 +16,3 @@ pub mod RangeSteps
 pub mod JoinSteps
 pub mod Searches
 pub mod FaultSteps
-pub mod ElementSteps

@@ -1,10 +1,10 @@
 -- Where an element lies on a line of the grid: a pin, and what meets branches, on its column, with the rows that it
 -- covers; what meets trunks on its track, with the columns. Line 0 is none.
-use Rattle.std.specs.Prelude.{ℕ, suc, ◌+◌, ◌-◌, ◌*◌, ◌≤◌, ◌<◌, ◌≡◌, List, Bool, cond, length, ltb}
+use Rattle.std.specs.Prelude.{ℕ, suc, ◌+◌, ◌-◌, ◌*◌, List, Bool, cond, ltb}
 use Rattle.classes.specs.declared.Range.{Range}
 use Rattle.grid.specs.Pieces.{kind_of, trunk_kind, branch_kind, left, right, low, high}
 use Rattle.grid.specs.Touching.{kinds_meet}
-use Rattle.channel.specs.Channel.{Channel, widest, width}
+use Rattle.channel.specs.Channel.{Channel, width}
 use Rattle.wiring.specs.Pins.{column_of, row_of, net_of, pin_at}
 use Rattle.wiring.specs.Layouts.{Element, pin, copper}
 use Rattle.boardfile.specs.Open.{word_at, piece_of}
@@ -44,10 +44,3 @@ unfoldable pub range_on : Bool → Channel → ℕ → List ℕ → ℕ → Rang
 range_on across ch t board i =
     let x = element_at ch board i in
     cond across (on_track x) (in_column ch t x)
-
--- rows and tracks that a board can have, and a file that has the word of element i if it is a piece
-pub record PlaceReady (top bot board : List ℕ) (t i : ℕ) : Type 0 where
-  pub even : length bot ≡ length top
-  pub narrow : length top ≤ widest
-  pub low : t < 512
-  pub read : length top + length top ≤ i → 4 + 4 * (i - (length top + length top)) + 4 ≤ length board

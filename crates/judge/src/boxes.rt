@@ -5,7 +5,8 @@ ghost use Rattle.judge.specs.Code.{box_of};
 use boardfile::Fields;
 use grid::{BRANCH, CONTACT, Column, Row, TRUNK};
 
-// A kind, the first and the last column, the lowest and the highest row.
+// A kind, the first and the last column, the lowest and the highest row. The kind stays a number, as the board file has
+// it and `grid::kinds_meet` takes it.
 #[derive(Clone, Copy)]
 pub struct Cover {
     pub kind: u32,

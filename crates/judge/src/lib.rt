@@ -1,25 +1,28 @@
 // The judge of a board file against the rows of a channel.
 #![tactic(auto)]
 
-ghost use Rattle.std.specs.Prelude.{◌≡◌};
+ghost use Rattle.std.specs.Prelude.{◌≡◌, ◌≤◌, length};
+ghost use Rattle.refusal.specs.Trays.{scratch_tray};
 ghost use Rattle.boardfile.specs.Open.{file_layout};
 ghost use Rattle.judge.specs.Finding.{finding};
 ghost use Rattle.judge.specs.Answers.{judged, fault_number, fault_place};
 ghost use Rattle.judge.specs.Code.{Judged, board_answer};
 ghost use Rattle.channel.specs.Channel.{rows};
-ghost use Rattle.judge.specs.ElementSteps.{ElementsReady, PiecesReady};
+ghost use Rattle.judge.specs.LineSteps.{elements};
 
 mod boxes;
+mod case;
 mod faults;
 mod lines;
 mod ranges;
 
 use boardfile::Board;
+use case::Case;
 use grid::COLUMN_SLOTS;
 use refusal::{Refusal, SCRATCH_TRAY};
 
 // What is wrong with a board, each with its place.
-#[derive(Clone, Copy)]
+#[derive(Clone, Copy, Debug, PartialEq, Eq)]
 pub enum Fault {
     // 11: the lowest pin position joined to an earlier pin of another net
     Short(usize),
@@ -30,7 +33,8 @@ pub enum Fault {
 }
 
 // What the judge answers.
-#[derive(Clone, Copy)]
+// An enum with the fault enum in a case: docs/SCOPE.md names the form.
+#[derive(Clone, Copy, Debug, PartialEq, Eq)]
 pub enum JudgeAnswer {
     // the board is good; its tracks
     Good(u32),
@@ -39,6 +43,8 @@ pub enum JudgeAnswer {
 }
 
 // The number of a fault in the table of the scope.
+// No From: docs/PROMISES.md names this function and `fault_place`.
+#[tactic(auto, unfolding(crate::specs::Answers::fault_number))]
 pub fn fault_number(fault: Fault) -> u32
     ensures { result ≡ fault_number fault }
 {
@@ -50,73 +56,42 @@ pub fn fault_number(fault: Fault) -> u32
 }
 
 // The place of a fault: a pin position, or of floating copper the piece.
+#[tactic(auto, unfolding(crate::specs::Answers::fault_place))]
 pub fn fault_place(fault: Fault) -> usize
     ensures { result ≡ fault_place fault }
 {
     match fault {
-        Fault::Short(place) => place,
-        Fault::Open(place) => place,
-        Fault::Floating(piece) => piece,
+        Fault::Short(place) | Fault::Open(place) | Fault::Floating(place) => place,
     }
 }
 
 // Judges the elements of a board, its pin places and pieces, with a number of scratch for each. The table, by place of
 // a line and then by net, is blank at each use.
-fn judge_elements(
-    top: &[u32],
-    bot: &[u32],
-    board: &[u8],
-    tracks: u32,
-    scratch: &mut [u32],
-) -> JudgeAnswer
-    requires { ElementsReady (rows top.now bot.now) board.now tracks scratch.old }
-    ensures { result ≡ judged tracks (finding (rows top.now bot.now) (file_layout board.now)) }
+// The scratch stays a slice of its own: C lends it.
+fn judge_elements(case: &Case, scratch: &mut [u32]) -> JudgeAnswer
+    requires { length scratch.old ≡ elements case.now }
+    ensures { result ≡ judged case.now.tracks (finding case.now.channel (file_layout case.now.board)) }
 {
-    let width = top.len();
+    let width = case.width();
+    let tracks = case.tracks;
     let rows = tracks as usize + 2;
     let mut table = [0u32; COLUMN_SLOTS];
     classes::alone(scratch);
-    lines::join_on::<ranges::Columns>(
-        top,
-        bot,
-        board,
-        tracks,
-        width + 1,
-        rows,
-        &mut table,
-        scratch,
-    );
-    lines::join_on::<ranges::Tracks>(
-        top,
-        bot,
-        board,
-        tracks,
-        rows - 1,
-        width + 1,
-        &mut table,
-        scratch,
-    );
+    lines::join_on::<ranges::Columns>(case, width + 1, rows, &mut table, scratch);
+    lines::join_on::<ranges::Tracks>(case, rows - 1, width + 1, &mut table, scratch);
     classes::flatten(scratch);
-    match faults::find_fault(top, bot, scratch, &mut table) {
+    match faults::find_fault(case, scratch, &mut table) {
         None => JudgeAnswer::Good(tracks),
         Some(fault) => JudgeAnswer::Faulty(fault),
     }
 }
 
-// Judges the pieces of a board that opens and has the rows' width.
-fn judge_pieces(
-    top: &[u32],
-    bot: &[u32],
-    board: &[u8],
-    tracks: u32,
-    count: usize,
-    scratch: &mut [u32],
-) -> JudgeAnswer
-    requires { PiecesReady (rows top.now bot.now) board.now tracks count scratch.old }
-    ensures { result ≡ judged tracks (finding (rows top.now bot.now) (file_layout board.now)) }
+// Judges a board in the front of scratch, which has a number for each element.
+fn judge_case(case: &Case, scratch: &mut [u32]) -> JudgeAnswer
+    requires { scratch_tray ≤ length scratch.old }
+    ensures { result ≡ judged case.now.tracks (finding case.now.channel (file_layout case.now.board)) }
 {
-    let n = top.len() + top.len() + count;
-    judge_elements(top, bot, board, tracks, &mut scratch[..n])
+    judge_elements(case, &mut scratch[..case.elements()])
 }
 
 // Opens a board file for rows of any lengths and numbers; or refusals 3 to 5 of the rows, 8 and 9 of the file, and 10.
@@ -144,14 +119,14 @@ pub fn judge(top: &[u32], bot: &[u32], board: &[u8], scratch: &mut [u32]) -> Jud
     match open_for(top, bot, board) {
         Err(refusal) => JudgeAnswer::Refused(refusal),
         Ok(opened) => {
-            judge_pieces(
+            let case = Case {
                 top,
                 bot,
                 board,
-                opened.tracks,
-                opened.count as usize,
-                scratch,
-            )
+                tracks: opened.tracks,
+                count: opened.count as usize,
+            };
+            judge_case(&case, scratch)
         }
     }
 }

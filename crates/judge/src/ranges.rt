@@ -1,14 +1,15 @@
 // Where an element, a pin place or a piece, lies on a line of the grid: on its column, or on its track.
 ghost use Rattle.std.specs.Prelude.{◌≡◌, ◌<◌, Bool, true, false};
-ghost use Rattle.channel.specs.Channel.{rows};
-ghost use Rattle.judge.specs.Ranges.{pin_range, cover_column, cover_track, element_at, in_column, on_track, range_on};
-ghost use Rattle.judge.specs.Ranges.{PlaceReady};
+ghost use Rattle.judge.specs.Ranges.{pin_range, cover_column, cover_track};
+ghost use Rattle.judge.specs.LineSteps.{elements, ranges};
 
-use crate::boxes::{Cover, cover_of, pick};
+use crate::boxes::{Cover, pick};
+use crate::case::Case;
 use classes::Range;
 use grid::{BRANCH, TRUNK};
 
 // A pin stands in a row of its column; a place without a pin lies on no line.
+#[tactic(auto, unfolding(crate::specs::Ranges::pin_range))]
 fn pin_range(net: u32, column: usize, row: u32) -> Range
     requires { (column < 1024) × (row < 1024) }
     ensures { result ≡ pin_range net column row }
@@ -21,6 +22,7 @@ fn pin_range(net: u32, column: usize, row: u32) -> Range
 }
 
 // The rows that a piece covers in its column, if it meets branches.
+#[tactic(auto, unfolding(crate::specs::Ranges::cover_column))]
 fn cover_in_column(c: Cover) -> Range
     requires { c.high.0 < 1024 }
     ensures { result ≡ cover_column c }
@@ -33,6 +35,7 @@ fn cover_in_column(c: Cover) -> Range
 }
 
 // The columns that a piece covers on its track, if it meets trunks.
+#[tactic(auto, unfolding(crate::specs::Ranges::cover_track))]
 fn cover_on_track(c: Cover) -> Range
     requires { c.right.0 < 1024 }
     ensures { result ≡ cover_track c }
@@ -44,49 +47,14 @@ fn cover_on_track(c: Cover) -> Range
     }
 }
 
-// The rows that element i covers in its column.
-fn in_column(top: &[u32], bot: &[u32], board: &[u8], tracks: u32, i: usize) -> Range
-    requires { PlaceReady top.now bot.now board.now tracks i }
-    ensures { result
-        ≡ in_column (rows top.now bot.now) tracks
-        (element_at (rows top.now bot.now) board.now i) }
-{
-    let width = top.len();
-    if i < width {
-        return pin_range(top[i], i + 1, tracks + 1);
-    }
-    let pins = width + width;
-    if i < pins {
-        let column = i - width;
-        return pin_range(bot[column], column + 1, 0);
-    }
-    cover_in_column(cover_of(boardfile::word_at(board, 4 + 4 * (i - pins))))
-}
-
-// The columns that element i covers on its track.
-fn on_track(top: &[u32], bot: &[u32], board: &[u8], tracks: u32, i: usize) -> Range
-    requires { PlaceReady top.now bot.now board.now tracks i }
-    ensures { result ≡ on_track (element_at (rows top.now bot.now) board.now i) }
-{
-    let pins = top.len() + top.len();
-    if i < pins {
-        return Range {
-            line: 0,
-            start: 0,
-            past: 1,
-        };
-    }
-    cover_on_track(cover_of(boardfile::word_at(board, 4 + 4 * (i - pins))))
-}
-
 // Lines of one kind: each element lies on one of them, on a range of its places.
 pub trait Lines {
     ghost across: { Bool };
 
     // The range of element i on its line.
-    fn range_of(top: &[u32], bot: &[u32], board: &[u8], tracks: u32, i: usize) -> Range
-        requires { PlaceReady top.now bot.now board.now tracks i }
-        ensures { result ≡ range_on across (rows top.now bot.now) tracks board.now i };
+    fn range_of(case: &Case, i: usize) -> Range
+        requires { i < elements case.now }
+        ensures { result ≡ ranges across case.now i };
 }
 
 // The columns, whose places are rows.
@@ -95,9 +63,18 @@ pub struct Columns;
 impl Lines for Columns {
     ghost across = { false };
 
-    #[tactic(auto, unfolding(crate::specs::Ranges::range_on))]
-    fn range_of(top: &[u32], bot: &[u32], board: &[u8], tracks: u32, i: usize) -> Range {
-        in_column(top, bot, board, tracks, i)
+    fn range_of(case: &Case, i: usize) -> Range {
+        let (top, bot, tracks) = (case.top, case.bot, case.tracks);
+        let width = top.len();
+        if i < width {
+            return pin_range(top[i], i + 1, tracks + 1);
+        }
+        let pins = width + width;
+        if i < pins {
+            let column = i - width;
+            return pin_range(bot[column], column + 1, 0);
+        }
+        cover_in_column(case.cover_at(i - pins))
     }
 }
 
@@ -107,8 +84,15 @@ pub struct Tracks;
 impl Lines for Tracks {
     ghost across = { true };
 
-    #[tactic(auto, unfolding(crate::specs::Ranges::range_on))]
-    fn range_of(top: &[u32], bot: &[u32], board: &[u8], tracks: u32, i: usize) -> Range {
-        on_track(top, bot, board, tracks, i)
+    fn range_of(case: &Case, i: usize) -> Range {
+        let pins = case.top.len() + case.top.len();
+        if i < pins {
+            return Range {
+                line: 0,
+                start: 0,
+                past: 1,
+            };
+        }
+        cover_on_track(case.cover_at(i - pins))
     }
 }

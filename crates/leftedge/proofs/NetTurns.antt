@@ -1,6 +1,6 @@
 -- The fill of a channel's nets as an instance of the fill of items: the tables of the nets, and what the fill of items
 -- leaves is what the fill of the channel answers.
-use Rattle.std.specs.Prelude.{ℕ, ◌<◌, ◌≡◌, refl, ◌↔◌, length, take, replicate}
+use Rattle.std.specs.Prelude.{◌≤◌, ℕ, ◌<◌, ◌≡◌, refl, ◌↔◌, length, take, replicate}
 use native.Mathlib.Omega.{arith}
 use Rattle.std.proofs.Math.Path.{sym, ap}
 use Rattle.std.proofs.Common.{◌∙◌, subst, length-take}
@@ -125,11 +125,14 @@ module _ {ch : Channel} (only : NetsOnly ch) {q : ItemsFilled} {left tracks : Li
   stuck_there : fill ch ≡ stuck (take n left)
   stuck_there = found.2 ∙ ap stuck (sym shown-left)
 
-  pub walk_begins : WalkFrom ch tracks left n
+  -- so many stand at the front of those left
+  pub left-fits : n ≤ length left
+  left-fits = let l = length-take n left in let s = ap length shown-left in let q = found.1 in omega arith
+
+  pub walk_begins : WalkFrom ch tracks (take n left)
   walk_begins =
       record {
         only = only;
-        fits = let l = length-take n left in let s = ap length shown-left in let q = found.1 in omega arith;
         stuck-with = nets-stuck ch only.escapes (take n left) stuck_there;
         unplaced = λ m k. subst (λ (l : List ℕ). (get_or tracks m 0 ≡ 0) ↔ Memᴰ m l) (sym shown-left)
             (e.unplaced found.0 found.2 m (spanning→order ch only.escapes.even m k));

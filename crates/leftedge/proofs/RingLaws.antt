@@ -2,8 +2,8 @@
 -- walk and the definition's are one, and the part from the first visit of the net met again on is the walk from that
 -- net until it is met.
 use Prim.Native.Nat.{ℕ, zero, suc, ◌+◌, ◌*◌, ◌≤◌, ◌<◌}
-use Rattle.std.proofs.Common.{arith, ◌∙◌, length-take-le, eqb→eq, eq-eqb, ne_eqb}
-use Rattle.std.specs.Prelude.{◌≡◌, ◌&&◌, length, take, drop, get_or}
+use Rattle.std.proofs.Common.{arith, ◌∙◌, eqb→eq, eq-eqb, ne_eqb}
+use Rattle.std.specs.Prelude.{◌≡◌, ◌&&◌, length, drop, get_or}
 use Rattle.std.proofs.Math.Path.{refl, sym, ap, subst}
 use mathlib.Core.List.Memᴰ
 use mathlib.Core.List.{List, [], ◌∷◌, ◌++◌, map, Memᴰ}
@@ -101,101 +101,94 @@ module _ (it : Items) (left : List ℕ) where
             unfold after met in (ap (λ (l : List Step). walk fuel it left l (next (after next start k)))
             (sym (steps-more columns (met next start k) (after next start k))))
 
-module _ (ch : Channel) (tracks left : List ℕ) (count : ℕ) (w : WalkFrom ch tracks left count) where
-  abbrev ls : List ℕ
-  ls = take count left
-
+module _ (ch : Channel) (tracks left : List ℕ) (w : WalkFrom ch tracks left) where
   -- a net below another has no track exactly if it is left
-  free-below : (n c : ℕ) → (above ch n (at ch.bot c) c && is_in (at ch.bot c) ls) ≡ over_wanted ch (bare tracks) n c
+  free-below : (n c : ℕ) → (above ch n (at ch.bot c) c && is_in (at ch.bot c) left) ≡ over_wanted ch (bare tracks) n c
   unfolding over_wanted
   free-below n c = go (above ch n (at ch.bot c) c) refl
     where
       go : (t : Bool) → above ch n (at ch.bot c) c ≡ t
-          → (t && is_in (at ch.bot c) ls) ≡ (t && eqb (get_or tracks (at ch.bot c) 0) 0)
+          → (t && is_in (at ch.bot c) left) ≡ (t && eqb (get_or tracks (at ch.bot c) 0) 0)
       go false e = refl
       go true e =
           let b = at ch.bot c in
           let u = w.unplaced b (lower-spans ch w.only.escapes (above→ ch n b c (true→T _ e))) in
-          same_test _ _ (λ t. subst (λ (k : ℕ). T (eqb k 0)) (sym (u.1 (is_in→member b ls t))) (eqb_refl 0))
+          same_test _ _ (λ t. subst (λ (k : ℕ). T (eqb k 0)) (sym (u.1 (is_in→member b left t))) (eqb_refl 0))
           (λ t. member→is_in (u.0 (eqb→eq (get_or tracks b 0) 0 t)))
 
   -- the column kept is that of the first drop
-  first-drop-kept : (n : ℕ) → first_drop (net_items ch) ls n ≡ drop_in ch.bot (lowest_drop ch tracks n)
+  first-drop-kept : (n : ℕ) → first_drop (net_items ch) left n ≡ drop_in ch.bot (lowest_drop ch tracks n)
   unfolding first_drop net_items drops lowest_over
   first-drop-kept n =
       let on : ℕ → Bool = λ c. above ch n (at ch.bot c) c in
       ap (head_or (record { column = 0; lower = 0 }))
-      (keep-map (λ d. is_in d.lower ls) (drop_in ch.bot) (keep on (up_to (width ch))))
+      (keep-map (λ d. is_in d.lower left) (drop_in ch.bot) (keep on (up_to (width ch))))
       ∙ (head-drop ch.bot _ ∙ ap (λ (cs : List ℕ). drop_in ch.bot (head_or 0 cs))
-      (keep-keep (λ c. is_in (at ch.bot c) ls) on (up_to (width ch)) ∙ keep_same _ _ (free-below n) (up_to (width ch))))
+      (keep-keep (λ c. is_in (at ch.bot c) left) on (up_to (width ch)) ∙ keep_same _ _ (free-below n) (up_to (width ch))))
 
-  left-net : (n : ℕ) → Memᴰ n ls → IsNet ch n
+  left-net : (n : ℕ) → Memᴰ n left → IsNet ch n
   left-net n m = (spanning→ ch n (order→spanning ch n (w.stuck-with.items n m))).0
 
-  left-few : length ls ≤ 511
+  left-few : length left ≤ 511
   left-few =
-      let p = pigeonhole ls (up_to 511) w.stuck-with.distinct
+      let p = pigeonhole left (up_to 511) w.stuck-with.distinct
       (λ n m. let h = left-net n m in in-up_to 511 n h.positive h.low) in
       let l = length_from 1 511 in
       omega arith
 
-  pub left-counted : (0 < count) × (count ≤ 512)
-  left-counted =
-      let l = length-take-le count left w.fits in
-      let some = w.stuck-with.some_left in
-      let few = left-few in
-      omega arith
+  pub left-some : 0 < length left
+  left-some = w.stuck-with.some_left
 
   module _ (columns : List ℕ) (e : columns ≡ each512 (lowest_drop ch tracks)) where
-    column-kept : (n : ℕ) → Memᴰ n ls → first_drop (net_items ch) ls n ≡ drop_in ch.bot (get_or columns n 0)
+    column-kept : (n : ℕ) → Memᴰ n left → first_drop (net_items ch) left n ≡ drop_in ch.bot (get_or columns n 0)
     column-kept n m =
         let low = (left-net n m).low in
         first-drop-kept n ∙ sym (ap (drop_in ch.bot)
         (numbered-at (lowest_drop ch tracks) 512 e n (omega arith)))
 
     -- the walk never leaves the nets left
-    pub left-confines : Confines ch.bot columns (least ls) ls
+    pub left-confines : Confines ch.bot columns (least left) left
     left-confines =
         record {
           few = left-few;
           low = λ n m. let h = (left-net n m).low in
               omega arith;
-          begins = least-left (net_items ch) ls w.stuck-with;
+          begins = least-left (net_items ch) left w.stuck-with;
           column = column;
           stays = stays;
         }
       where
-        column : (n : ℕ) → Memᴰ n ls → (1 ≤ get_or columns n 0) × (get_or columns n 0 ≤ length ch.bot)
+        column : (n : ℕ) → Memᴰ n left → (1 ≤ get_or columns n 0) × (get_or columns n 0 ≤ length ch.bot)
         column n m =
-            let f = (first-drop (net_items ch) ls w.stuck-with n m).0 in
+            let f = (first-drop (net_items ch) left w.stuck-with n m).0 in
             let c = above-column ch w.only.escapes (falls→above ch n _ _ f) in
             let same = ap (λ (d : Drop). d.column) (column-kept n m) in
             let even = w.only.escapes.even in
             omega arith
 
-        stays : (n : ℕ) → Memᴰ n ls → Memᴰ (net_below ch.bot columns n) ls
+        stays : (n : ℕ) → Memᴰ n left → Memᴰ (net_below ch.bot columns n) left
         stays n m =
             Memᴰ.cast (sym (ap (λ (d : Drop). d.lower) (column-kept n m)))
-            (first-drop (net_items ch) ls w.stuck-with n m).1
+            (first-drop (net_items ch) left w.stuck-with n m).1
 
-    module _ {again pairs : ℕ} (t : Closes (net_below ch.bot columns) (least ls) again pairs) where
+    module _ {again pairs : ℕ} (t : Closes (net_below ch.bot columns) (least left) again pairs) where
       abbrev down : ℕ → ℕ
       down = net_below ch.bot columns
 
       -- nor does it from the net met again
-      pub again-confines : Confines ch.bot columns again ls
+      pub again-confines : Confines ch.bot columns again left
       again-confines =
           let c = left-confines in
           record {
             few = c.few;
             low = c.low;
-            begins = Memᴰ.cast t.first (after-inside down (least ls) ls c.begins c.stays t.place);
+            begins = Memᴰ.cast t.first (after-inside down (least left) left c.begins c.stays t.place);
             column = c.column;
             stays = c.stays;
           }
 
-      steps-few : t.steps ≤ length ls
-      steps-few = met-few down (least ls) ls left-confines.begins left-confines.stays t.steps t.unmet
+      steps-few : t.steps ≤ length left
+      steps-few = met-few down (least left) left left-confines.begins left-confines.stays t.steps t.unmet
 
       pub pairs-few : pairs ≤ 511
       pairs-few = let a = steps-few in let b = left-few in let s = t.split in omega arith
@@ -204,38 +197,38 @@ module _ (ch : Channel) (tracks left : List ℕ) (count : ℕ) (w : WalkFrom ch 
       pairs-fit h = let f = pairs-few in omega arith
 
       abbrev nets : List ℕ
-      nets = met down (least ls) t.steps
+      nets = met down (least left) t.steps
 
       first-place : get_or nets t.place 0 ≡ again
       first-place =
           let s = t.split in let p = t.some in
-          get_or-met down (least ls) t.steps t.place (omega arith) ∙ sym t.first
+          get_or-met down (least left) t.steps t.place (omega arith) ∙ sym t.first
 
       inside : t.place < length nets
-      inside = let s = t.split in let p = t.some in omega (arith, length-met down (least ls) t.steps)
+      inside = let s = t.split in let p = t.some in omega (arith, length-met down (least left) t.steps)
 
-      walked : ring_of (net_items ch) ls ≡ from_visit again (steps_by columns nets)
+      walked : ring_of (net_items ch) left ≡ from_visit again (steps_by columns nets)
       walked =
           unfold ring_of after met in
-          (walk-met (net_items ch) ls columns down (least ls) t.steps
-          (λ k. column-kept _ (after-inside down (least ls) ls left-confines.begins left-confines.stays k))
+          (walk-met (net_items ch) left columns down (least left) t.steps
+          (λ k. column-kept _ (after-inside down (least left) left left-confines.begins left-confines.stays k))
           t.unmet (Memᴰ.cast (sym t.second ∙ sym first-place) (get_or-member nets t.place inside)) t.steps 0
-          (length ls) (omega arith) (let few = steps-few in omega arith)
+          (length left) (omega arith) (let few = steps-few in omega arith)
           ∙ ap (λ (n : ℕ). from_visit n (steps_by columns nets)) (sym t.second))
 
       -- the walk's ring is the walk from the net met again until it is met
-      pub ring-closed : steps_by columns (met down again pairs) ≡ ring_of (net_items ch) ls
+      pub ring-closed : steps_by columns (met down again pairs) ≡ ring_of (net_items ch) left
       ring-closed =
           ap (λ (n : ℕ). steps_by columns (met down n pairs)) t.first
-          ∙ (ap (steps_by columns) (sym (drop-met down (least ls) t.place pairs)
-          ∙ ap (λ (k : ℕ). drop t.place (met down (least ls) k)) t.split)
-          ∙ (sym (from_place columns nets t.place again (met-distinct down (least ls) t.steps t.unmet) inside
+          ∙ (ap (steps_by columns) (sym (drop-met down (least left) t.place pairs)
+          ∙ ap (λ (k : ℕ). drop t.place (met down (least left) k)) t.split)
+          ∙ (sym (from_place columns nets t.place again (met-distinct down (least left) t.steps t.unmet) inside
           first-place) ∙ sym walked))
 
       -- so it is shown
       pub ring-shown : {ring ring' : List ℕ}
           → ring' ≡ overlay (ring_numbers (steps_by columns (met down again pairs))) ring
-          → RingShown ch ls ring pairs ring'
+          → RingShown ch left ring pairs ring'
       ring-shown {ring} e =
           record {
             counted =

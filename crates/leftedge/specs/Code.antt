@@ -56,10 +56,9 @@ pub record RingShown (ch : Channel) (left ring : List ℕ) (r : ℕ) (ring' : Li
   pub counted : r ≡ length (ring_of (net_items ch) left)
   pub shown : ring' ≡ overlay (ring_numbers (ring_of (net_items ch) left)) ring
 
--- the state in which the walk begins: the first `count` of `left` are the nets left by a fill that is stuck, and just
--- these have no track among the nets with spans
-pub record WalkFrom (ch : Channel) (tracks left : List ℕ) (count : ℕ) : Type 0 where
+-- the state in which the walk begins: `left` are the nets left by a fill that is stuck, and just these have no track
+-- among the nets with spans
+pub record WalkFrom (ch : Channel) (tracks left : List ℕ) : Type 0 where
   pub only : NetsOnly ch
-  pub fits : count ≤ length left
-  pub stuck-with : StuckWith (net_items ch) (take count left)
-  pub unplaced : (n : ℕ) → Memᴰ n (spanning ch) → (get_or tracks n 0 ≡ 0) ↔ Memᴰ n (take count left)
+  pub stuck-with : StuckWith (net_items ch) left
+  pub unplaced : (n : ℕ) → Memᴰ n (spanning ch) → (get_or tracks n 0 ≡ 0) ↔ Memᴰ n left

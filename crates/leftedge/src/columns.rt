@@ -1,11 +1,10 @@
 // The fill's own copy of first and last columns, in 16-bit numbers (SCOPE, Req 06).
 ghost use Rattle.std.specs.Prelude.{◌≡◌, ◌≤◌, get_or, set, replicate};
 ghost use Rattle.grid.specs.Numbers.{column_numbers};
-ghost use Rattle.channel.specs.Channel.{highest_net, widest, rows};
-ghost use Rattle.channel.specs.Parked.{NetsOnly};
-ghost use Rattle.channel.specs.Spans.{firsts, lasts};
+ghost use Rattle.channel.specs.Channel.{highest_net, widest};
 ghost use Rattle.leftedge.specs.Columns.{ColumnsDue};
 
+use channel::Columns;
 use grid::{Column, NET_SLOTS, Net};
 
 // Copies the columns of net n, of which none passes 512.
@@ -25,22 +24,14 @@ fn copy_net(
     ends[i] = last[i].0 as u16;
 }
 
-// Copies the columns of every net of a channel whose rows show nets only, by its number, into tables that hold 0
-// everywhere. A net is copied at each of its pins: a small channel has fewer of these than there are numbers. So is 0,
-// which stands where no pin is, and whose columns are 0.
-pub fn copy_columns(
-    top: &[u32],
-    bot: &[u32],
-    first: &[Column; NET_SLOTS],
-    last: &[Column; NET_SLOTS],
-    begins: &mut [u16; NET_SLOTS],
-    ends: &mut [u16; NET_SLOTS],
-)
-    requires { NetsOnly (rows top.now bot.now) × (column_numbers first.now ≡ firsts (rows top.now bot.now))
-        × (column_numbers last.now ≡ lasts (rows top.now bot.now)) × (begins.old ≡ replicate 512 0)
-        × (ends.old ≡ replicate 512 0) }
-    ensures { ColumnsDue (rows top.now bot.now) begins.new ends.new }
+// Copies the columns of every net, by its number, into tables that hold 0 everywhere. A net is copied at each of its
+// pins: a small channel has fewer of these than there are numbers. So is 0, which stands where no pin is, and whose
+// columns are 0.
+pub fn copy_columns(columns: &Columns, begins: &mut [u16; NET_SLOTS], ends: &mut [u16; NET_SLOTS])
+    requires { (begins.old ≡ replicate 512 0) × (ends.old ≡ replicate 512 0) }
+    ensures { ColumnsDue columns.now begins.new ends.new }
 {
+    let (top, bot, first, last) = (columns.top, columns.bot, columns.first, columns.last);
     for i in 0..top.len() {
         copy_net(first, last, begins, ends, Net(top[i]));
         copy_net(first, last, begins, ends, Net(bot[i]));

@@ -11,7 +11,8 @@ pub use nets::{count_looks, fill_tracks};
 pub use ring::store_pairs;
 
 // What the caller's table has of one net. A straight net's column stands twice, and its track is 0: it has none.
-#[derive(Clone, Copy)]
+// 0 and no None: docs/SCOPE.md writes the record so.
+#[derive(Clone, Copy, Debug, PartialEq, Eq)]
 pub struct NetRecord {
     pub number: Net,
     pub first: Column,
@@ -20,7 +21,8 @@ pub struct NetRecord {
 }
 
 // How a fill ends.
-#[derive(Clone, Copy)]
+// An enum of its own: docs/SCOPE.md names the loop that is left by `break` with the outcome.
+#[derive(Clone, Copy, Debug, PartialEq, Eq)]
 pub enum Outcome {
     // every net with a span is placed, on so many tracks
     Placed(u32),

@@ -1,23 +1,24 @@
 // The walk that shows a ring where the fill is stuck.
-ghost use Rattle.std.specs.Prelude.{◌≡◌, ◌*◌, ◌≤◌, ◌<◌, length, take};
+ghost use Rattle.std.specs.Prelude.{◌≡◌, ◌*◌, ◌≤◌, ◌<◌, length};
 ghost use Rattle.lists.specs.Lists.{least, overlay};
 ghost use Rattle.refusal.specs.Trays.{ring_tray};
 ghost use Rattle.grid.specs.Numbers.{track_numbers};
-ghost use Rattle.channel.specs.Channel.{rows};
-ghost use Rattle.channel.specs.Parked.{NetsOnly};
 ghost use Rattle.channel.specs.Spans.{each512};
 ghost use Rattle.leftedge.specs.Walk.{ring_numbers};
 ghost use Rattle.leftedge.specs.Ring.{lowest_drop, net_below, met, steps_by, Confined, Closes};
 ghost use Rattle.leftedge.specs.Code.{RingShown, WalkFrom};
 
+use channel::Nets;
 use grid::{NET_SLOTS, Net, Track};
 
 // For each net number its lowest column that has a net without a track below it, 0 if there is none.
-fn lowest_drops(top: &[u32], bot: &[u32], tracks: &[Track; NET_SLOTS]) -> [u32; NET_SLOTS]
-    requires { NetsOnly (rows top.now bot.now) }
-    ensures { result ≡ each512 (lowest_drop (rows top.now bot.now) (track_numbers tracks.now)) }
+// 0 is no column: `store_pairs`, named in docs/PROMISES.md, is lent this table of numbers.
+fn lowest_drops(nets: &Nets, tracks: &[Track; NET_SLOTS]) -> [u32; NET_SLOTS]
+    ensures { result ≡ each512 (lowest_drop nets.now (track_numbers tracks.now)) }
 {
+    let (top, bot) = (nets.top, nets.bot);
     let mut columns = [0u32; NET_SLOTS];
+    // no loop shared with `home_columns` of rings: a closure for the test would cost a law for five lines
     for i in (0..top.len()).rev() {
         let a = top[i];
         let b = bot[i];
@@ -28,14 +29,14 @@ fn lowest_drops(top: &[u32], bot: &[u32], tracks: &[Track; NET_SLOTS]) -> [u32; 
     columns
 }
 
-// The lowest of the first `count` nets of `left`.
-fn lowest_net(left: &[u32; NET_SLOTS], count: usize) -> Net
-    requires { (0 < count) × (count ≤ 512) × (count ≤ length left.now) }
-    ensures { result.0 ≡ least (take count left.now) }
+// The lowest of the nets `left`, of which there are some.
+fn lowest_net(left: &[u32]) -> Net
+    requires { 0 < length left.now }
+    ensures { result.0 ≡ least left.now }
 {
     let mut least = left[0];
-    for i in 1..count {
-        least = least.min(left[i]);
+    for &n in &left[1..] {
+        least = least.min(n);
     }
     Net(least)
 }
@@ -53,9 +54,11 @@ fn walk_down(bot: &[u32], columns: &[u32; NET_SLOTS], start: Net) -> Walked
     requires { Confined bot.now columns.now start.0 }
     ensures { Closes (net_below bot.now columns.now) start.0 result.again.0 result.count }
 {
+    // 0 and no Option, since the marks begin at 1
     let mut visits = [0u32; NET_SLOTS];
     let mut n = start.0 as usize;
     let mut mark: u32 = 1;
+    // a `while`: the next net is read from the rows, until one is met again
     while visits[n] == 0 {
         visits[n] = mark;
         mark += 1;
@@ -68,6 +71,7 @@ fn walk_down(bot: &[u32], columns: &[u32; NET_SLOTS], start: Net) -> Walked
 }
 
 // Walks `count` steps down from net `again` and stores them as pairs, net and column, at the front of `ring`.
+// The ring is the flat buffer that C lends, with the pairs at its front.
 pub fn store_pairs(
     bot: &[u32],
     columns: &[u32; NET_SLOTS],
@@ -92,20 +96,13 @@ pub fn store_pairs(
 }
 
 // Shows the ring of the unplaced nets `left`; answers the number of pairs.
-pub fn show_ring(
-    top: &[u32],
-    bot: &[u32],
-    tracks: &[Track; NET_SLOTS],
-    left: &[u32; NET_SLOTS],
-    count: usize,
-    ring: &mut [u32],
-) -> u32
-    requires { WalkFrom (rows top.now bot.now) (track_numbers tracks.now) left.now count × (ring_tray ≤ length ring.old) }
-    ensures { RingShown (rows top.now bot.now) (take count left.now) ring.old result
-        ring.new }
+pub fn show_ring(nets: &Nets, tracks: &[Track; NET_SLOTS], left: &[u32], ring: &mut [u32]) -> u32
+    requires { WalkFrom nets.now (track_numbers tracks.now) left.now × (ring_tray ≤ length ring.old) }
+    ensures { RingShown nets.now left.now ring.old result ring.new }
 {
-    let columns = lowest_drops(top, bot, tracks);
-    let walked = walk_down(bot, &columns, lowest_net(left, count));
+    let bot = nets.bot;
+    let columns = lowest_drops(nets, tracks);
+    let walked = walk_down(bot, &columns, lowest_net(left));
     store_pairs(bot, &columns, walked.again, walked.count, ring);
     walked.count
 }

@@ -1,7 +1,5 @@
-// The fill of items, track by track, over tables by item number: `first` and `last` have the columns of each item, in
-// 16 bits; `nets` has the net that it is a part of; the places of `upper` in which an item stands below are linked by
-// `head` and `next`; and `under` counts the steps below each item that lead to unplaced ones. Each look at an unplaced
-// item is counted.
+// The fill of items, track by track, over tables by item number; `under` counts the steps below each item that lead to
+// unplaced ones. Each look at an unplaced item is counted.
 ghost use Rattle.std.specs.Prelude.{◌≡◌, ◌<◌, List, length, take, get_or};
 ghost use Rattle.std.proofs.Math.Option.{none};
 ghost use Rattle.grid.specs.Numbers.{track_numbers};
@@ -12,8 +10,23 @@ ghost use Rattle.leftedge.specs.Tables.{ScanBegins, ScanFrom, ScanDone, FillBegi
 
 use grid::Track;
 
-// How the fill of items ends.
+// What a fill of items only reads, by item number.
 #[derive(Clone, Copy)]
+pub struct Tables<'a> {
+    // the columns of each item, in 16 bits
+    pub first: &'a [u16],
+    pub last: &'a [u16],
+    // the net that it is a part of
+    pub nets: &'a [u32],
+    // the places of `upper` in which it stands below, linked by `head` and `next`
+    pub upper: &'a [u32],
+    pub head: &'a [u16],
+    pub next: &'a [u16],
+}
+
+// How the fill of items ends.
+// Not `Outcome`: stuck, this tells the items left, and that the pairs of the ring shown.
+#[derive(Clone, Copy, Debug, PartialEq, Eq)]
 pub enum FillEnd {
     // every item is placed, on so many tracks
     Placed(u32),
@@ -35,67 +48,63 @@ struct Scanned {
     looks: usize,
 }
 
-// The net that item n is a part of; an item past the end of `nets` is a net of its own.
-fn net_of(nets: &[u32], n: u32) -> u32
-    ensures { result ≡ net_at nets.now n }
-{
-    if (n as usize) < nets.len() {
-        return nets[n as usize];
+impl Tables<'_> {
+    // The net that item n is a part of; an item past the end of `nets` is a net of its own.
+    fn net_of(self, n: u32) -> u32
+        ensures { result ≡ net_at self.entry.nets.now n }
+    {
+        self.nets.get(n as usize).copied().unwrap_or(n)
     }
-    n
-}
 
-// Item n may follow on a track one of net `net` that ends in column `end`.
-fn may_follow(first: &[u16], nets: &[u32], n: u32, end: u16, net: u32) -> bool
-    requires { n < length first.now }
-    ensures { result ≡ may_follow end net (get_or first.now n 0) (net_at nets.now n) }
-{
-    let start = first[n as usize];
-    if start < end {
-        return false;
+    // Item n may follow on a track one of net `net` that ends in column `end`.
+    fn may_follow(self, n: u32, end: u16, net: u32) -> bool
+        requires { n < length self.first.now }
+        ensures { result ≡ may_follow end net (get_or self.entry.first.now n 0) (net_at self.entry.nets.now n) }
+    {
+        let start = self.first[n as usize];
+        if start < end {
+            return false;
+        }
+        end != start || net == self.net_of(n)
     }
-    end != start || net == net_of(nets, n)
 }
 
 // One scan of the first `count` items of `left` for track k: those placed get the track, the others move to the front
 // in their order.
+// The count stays beside, no plainer cut to it: the items left move to the front of one lent slice from scan to scan, and
+// after each scan the part would have to be shown to be the front of the whole again.
 fn scan_track(
-    first: &[u16],
-    last: &[u16],
-    nets: &[u32],
-    upper: &[u32],
-    head: &[u16],
-    next: &[u16],
+    tables: Tables<'_>,
     under: &mut [u16],
     left: &mut [u32],
     count: usize,
     tracks: &mut [Track],
     k: Track,
 ) -> Scanned
-    requires { ScanFrom first.now last.now nets.now upper.now head.now next.now under.old left.old
+    requires { ScanFrom tables.first.now tables.last.now tables.nets.now tables.upper.now
+        tables.head.now tables.next.now under.old left.old
         count (track_numbers tracks.old) }
     ensures { (it : Items) (ps : List Place)
-        → ScanBegins it ps first.now last.now nets.now upper.now
-        head.now next.now under.old left.old count (track_numbers tracks.old)
+        → ScanBegins it ps tables.entry.first.now tables.entry.last.now tables.entry.nets.now tables.entry.upper.now
+        tables.entry.head.now tables.entry.next.now under.old left.old count (track_numbers tracks.old)
         → ScanDone it (take count left.old)
         (scan it k.0 none ps (take count left.old)) result under.new
         left.new (track_numbers tracks.new) }
 {
     // the last column and the net of the item placed before on this track, 0 if there is none
+    // 0 and no Option: each column is past 0, so that one test serves the first item too
     let mut end: u16 = 0;
     let mut net: u32 = 0;
     let mut rest: usize = 0;
     let mut looks: usize = 0;
-    let mut i: usize = 0;
-    while i < count {
+    for i in 0..count {
         let item = left[i];
         let n = item as usize;
-        i += 1;
-        if under[n] == 0 && may_follow(first, nets, item, end, net) {
+        if under[n] == 0 && tables.may_follow(item, end, net) {
             tracks[n] = k;
-            end = last[n];
-            net = net_of(nets, item);
-            items::lower_above(upper, next, head[n], under);
+            end = tables.last[n];
+            net = tables.net_of(item);
+            items::lower_above(tables.upper, tables.next, tables.head[n], under);
             looks += 1;
         } else {
             left[rest] = item;
@@ -107,28 +116,26 @@ fn scan_track(
 }
 
 // Fills tracks with the first `count` items of `left`. Where the fill is stuck, the items left stand at the front.
+// The count stays beside, as in `scan_track`.
 pub fn fill_items(
-    first: &[u16],
-    last: &[u16],
-    nets: &[u32],
-    upper: &[u32],
-    head: &[u16],
-    next: &[u16],
+    tables: Tables<'_>,
     under: &mut [u16],
     left: &mut [u32],
     count: usize,
     tracks: &mut [Track],
 ) -> ItemsFilled
-    requires { FillFrom first.now last.now nets.now upper.now head.now next.now under.old left.old
+    requires { FillFrom tables.first.now tables.last.now tables.nets.now tables.upper.now
+        tables.head.now tables.next.now under.old left.old
         count (track_numbers tracks.old) }
     ensures { (it : Items)
-        → FillBegins it first.now last.now nets.now upper.now
-        head.now next.now under.old left.old count (track_numbers tracks.old)
+        → FillBegins it tables.entry.first.now tables.entry.last.now tables.entry.nets.now tables.entry.upper.now
+        tables.entry.head.now tables.entry.next.now under.old left.old count (track_numbers tracks.old)
         → FillEnds it (fill_items it) result left.new (track_numbers tracks.new) }
 {
     let mut rest = count;
     let mut looks: usize = 0;
     let mut done: u32 = 0;
+    // a loop left by `break` with the outcome, the form that docs/SCOPE.md names
     loop {
         if rest == 0 {
             break ItemsFilled {
@@ -136,19 +143,7 @@ pub fn fill_items(
                 looks,
             };
         }
-        let scanned = scan_track(
-            first,
-            last,
-            nets,
-            upper,
-            head,
-            next,
-            under,
-            left,
-            rest,
-            tracks,
-            Track(done + 1),
-        );
+        let scanned = scan_track(tables, under, left, rest, tracks, Track(done + 1));
         let looked = looks + scanned.looks;
         if scanned.rest == rest {
             break ItemsFilled {

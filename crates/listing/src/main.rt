@@ -4,10 +4,13 @@
 
 use std::io;
 
+// Not shared with the other programs: the clauses on a closure would be longer than these lines, and could not say what
+// is written, as the library has no clause of it.
 fn main(rt: HostRuntime) -> io::Result<()> {
-    let mut text = [0u8; 65537];
+    // no Vec: no more than one byte over the limit is ever read, and a Vec could run out of memory
+    let mut text = [0u8; programs::INPUT_ROOM];
     let size = files::read_full(&mut rt.stdin(), &mut text)?;
-    let mut out = [0u8; 65536];
+    let mut out = [0u8; programs::OUTPUT_ROOM];
     let count = programs::listing_output(&text[..size], &mut out);
     rt.write_all(&out[..count])
 }

@@ -1,5 +1,5 @@
 -- How often numbers stand in a list, and counts by number that are raised or lowered for each number of a list.
-use Rattle.std.specs.Prelude.{ℕ, zero, suc, ◌+◌, ◌-◌, ◌≤◌, ◌<◌, ◌≡◌, refl, length, get_or, set, take, drop, replicate, eqb}
+use Rattle.std.specs.Prelude.{ℕ, zero, suc, ◌+◌, ◌-◌, ◌≤◌, ◌<◌, ◌≡◌, refl, length, get_or, set, drop, replicate, eqb}
 use Rattle.std.proofs.Common.{add-one, arith, ◌∙◌, ap, ⊎_elim, length-set, drop_of_length-le, drop-cons, get_or-set_same, get_or-set_other, eqb→eq}
 use Rattle.std.proofs.Math.Decide.{dec_lt}
 use mathlib.Core.List.{List, [], ◌∷◌, Memᴰ}
@@ -17,11 +17,6 @@ pub get_or-zeros : (size k : ℕ) → ◌≡◌ {A = ℕ} (get_or (replicate siz
 get_or-zeros zero k = refl
 get_or-zeros (suc size) zero = refl
 get_or-zeros (suc size) (suc k) = get_or-zeros size k
-
-pub take-zeros : (k size : ℕ) → k ≤ size → ◌≡◌ {A = List ℕ} (take k (replicate size 0)) (replicate k 0)
-take-zeros zero size h = refl
-take-zeros (suc k) zero h = absurd (omega arith)
-take-zeros (suc k) (suc size) h = ap (λ (l : List ℕ). 0 ∷ l) (take-zeros k size (omega arith))
 
 pub none-counted : {counts : List ℕ} → counts ≡ replicate (length counts) 0 → (n : ℕ) → get_or counts n 0 ≡ 0
 none-counted {counts} e n = ap (λ (l : List ℕ). get_or l n 0) e ∙ get_or-zeros (length counts) n

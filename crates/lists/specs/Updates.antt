@@ -34,11 +34,6 @@ map_at f [] i h = absurd (omega arith)
 map_at f (x ∷ xs) zero h = refl
 map_at f (x ∷ xs) (suc i) h = map_at f xs i (omega arith)
 
-pub map-set : (f : ℕ → ℕ) (xs : List ℕ) (i v : ℕ) → map f (set xs i v) ≡ set (map f xs) i (f v)
-map-set f [] i v = refl
-map-set f (x ∷ xs) zero v = refl
-map-set f (x ∷ xs) (suc i) v = ap (λ (ys : List ℕ). f x ∷ ys) (map-set f xs i v)
-
 -- a store at place j of what f gives makes what g gives, if g gives the new number for j and differs from f nowhere
 -- else
 pub set_gives : (f g : ℕ → ℕ) (m j v : ℕ) → j < m → g j ≡ v → ((k : ℕ) → k < m → (k ≡ j → ⊥) → f k ≡ g k)

@@ -7,36 +7,24 @@ mod raising;
 ghost use Rattle.std.specs.Prelude.{◌≡◌, ◌≤◌, length};
 ghost use Rattle.refusal.specs.Trays.{row_tray};
 ghost use Rattle.channel.specs.Channel.{rows};
-ghost use Rattle.channel.specs.Answers.{Escapes};
-ghost use Rattle.panel.specs.Answers.{lists_answer};
 ghost use Rattle.panel.specs.Code.{CheckedJoined, JoinDone};
 
+use channel::Rows;
 use grid::{HIGHEST_NET, WIDEST};
 use refusal::{ROW_TRAY, Refusal};
 
-// Accepts two lists, each alone, or refuses them with the first of refusals 3 to 5 that list one has, then list two.
-fn check_lists(top1: &[u32], bot1: &[u32], top2: &[u32], bot2: &[u32]) -> Result<(), Refusal>
-    ensures { result ≡ lists_answer (rows top1.now bot1.now)
-        (rows top2.now bot2.now) }
-{
-    channel::check(top1, bot1)?;
-    channel::check(top2, bot2)
-}
-
-// Joins two lists that each escape refusals 3 to 5 into rows that are long enough, or refuses them together.
+// Joins two lists into rows that are long enough, or refuses them together.
 fn join_checked(
-    top1: &[u32],
-    bot1: &[u32],
-    top2: &[u32],
-    bot2: &[u32],
+    first: &Rows,
+    second: &Rows,
     top: &mut [u32],
     bot: &mut [u32],
 ) -> Result<usize, Refusal>
-    requires { Escapes (rows top1.now bot1.now) × Escapes (rows top2.now bot2.now)
-        × (row_tray ≤ length top.old) × (row_tray ≤ length bot.old) }
-    ensures { CheckedJoined (rows top1.now bot1.now) (rows top2.now bot2.now)
-        top.old bot.old result top.new bot.new }
+    requires { (row_tray ≤ length top.old) × (row_tray ≤ length bot.old) }
+    ensures { CheckedJoined first.now second.now top.old bot.old result top.new bot.new }
 {
+    let (top1, bot1) = (first.top, first.bot);
+    let (top2, bot2) = (second.top, second.bot);
     let width = top1.len() + top2.len();
     if WIDEST < width {
         return Err(Refusal::TooWide(WIDEST + 1));
@@ -69,6 +57,8 @@ pub fn join(
     if top.len() < ROW_TRAY || bot.len() < ROW_TRAY {
         return Err(Refusal::ShortTray(ROW_TRAY));
     }
-    check_lists(top1, bot1, top2, bot2)?;
-    join_checked(top1, bot1, top2, bot2, top, bot)
+    // each list is checked alone, one then two
+    let first = Rows::accept(top1, bot1)?;
+    let second = Rows::accept(top2, bot2)?;
+    join_checked(&first, &second, top, bot)
 }

@@ -1,12 +1,12 @@
 -- The numbers of a line, one by one: how far the line is read, and what its row holds then.
 use Rattle.std.specs.Prelude.{ℕ, suc, ◌+◌, ◌≤◌, ◌<◌, refl, length, get_or, take, drop, set, Some, None, Result, Ok, Err}
-use Rattle.std.proofs.Common.{arith, sym, ◌∙◌, ap, length-append, length-take, length-drop, drop-drop}
+use Rattle.std.proofs.Common.{arith, sym, ◌∙◌, ap, length-append, length-drop, drop-drop}
 use Rattle.std.proofs.Math.Numerals.{add-one}
 use Rattle.std.proofs.Math.Path.{◌≡◌, subst}
 use mathlib.Core.List.{List, [], ◌∷◌, ◌++◌, map, map-append}
 use Rattle.std.proofs.lemmas.List.{length-map}
 use Rattle.lists.specs.Lists.{overlay}
-use Rattle.lists.specs.Overlays.{stored_next, length-overlay}
+use Rattle.lists.specs.Overlays.{stored_next}
 use Rattle.channel.specs.Channel.{widest}
 use Rattle.pinlist.specs.declared.number.NumberAt.{NumberAt}
 use Rattle.pinlist.specs.declared.line.Line.{Line}
@@ -47,12 +47,6 @@ none_yet text from row h =
 held_more : (ns : List ℕ) (n : ℕ) (row₀ row : List ℕ) → length row₀ ≡ widest → Held ns row₀ row
     → Held (ns ++ (n ∷ [])) row₀ (set row (length ns) (kept n))
 held_more ns n row₀ row e h = rw (map-append, ← length-map ns kept) (stored_next row₀ (map kept ns) (kept n) widest e h)
-
-pub row-size : (text : List ℕ) (from : ℕ) (row₀ row : List ℕ) (at count : ℕ) → SoFar text from row₀ row at count
-    → length row₀ ≡ widest → length row ≡ widest
-row-size text from row₀ row at count s e =
-    let front = length-take widest (map kept s.numbers) in
-    ap length s.held ∙ (length-overlay (take widest (map kept s.numbers)) row₀ (omega arith) ∙ e)
 
 module _ (text : List ℕ) (from : ℕ) (row₀ : List ℕ) where
   -- what the number reader finds at `at` says how the line goes on

@@ -6,7 +6,6 @@ mod number;
 
 ghost use Rattle.std.specs.Prelude.{◌≡◌, ◌≤◌, length};
 ghost use Rattle.lists.specs.Lists.{overlay};
-ghost use Rattle.channel.specs.Channel.{widest};
 ghost use Rattle.pinlist.specs.Code.{Parsed, ReadDone};
 
 use crate::line::Stuck;
@@ -20,7 +19,6 @@ fn parse(
     top: &mut [u32; WIDEST],
     bot: &mut [u32; WIDEST],
 ) -> Result<(usize, usize), Stuck>
-    requires { (length top.old ≡ widest) × (length bot.old ≡ widest) }
     ensures { Parsed text.now top.old bot.old result top.new bot.new }
 {
     let tops = line::read_line(text, 0, b"TOP ", top)?;
@@ -31,14 +29,15 @@ fn parse(
     Ok((tops.count, bots.count))
 }
 
-#[tactic(auto, using(lists::specs::Copies::front_is_overlay))]
 // Copies a row to the front of a lent one; the rest of it stays.
+#[tactic(auto, using(lists::specs::Copies::front_is_overlay))]
 fn copy_row(from: &[u32], to: &mut [u32])
     requires { length from.now ≤ length to.old }
     ensures { to.new ≡ overlay from.now to.old }
 {
     to[..from.len()].copy_from_slice(from);
 }
+
 // Reads a pin list into two lent rows, each of at least 512 numbers, and answers their width. The text is checked whole
 // before a row is written: under a refusal both rows are as they were. Time is linear in the text.
 pub fn read(text: &[u8], top: &mut [u32], bot: &mut [u32]) -> Result<usize, Refusal>

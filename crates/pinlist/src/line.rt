@@ -1,6 +1,5 @@
 // A line of a pin list: its word, then spaces and a number one or more times, then a line end.
 ghost use Rattle.std.specs.Prelude.{◌≡◌, ◌+◌, ◌≤◌, [], length, drop, set};
-ghost use Rattle.channel.specs.Channel.{widest};
 ghost use Rattle.refusal.specs.declared.Refusal.TheVariants.{Garbled};
 ghost use Rattle.pinlist.specs.Code.{shared, feed_read, LineDone};
 
@@ -29,14 +28,11 @@ impl From<Stuck> for Refusal {
 
 // How many bytes of `word` stand at `at`, from the first on.
 fn shared_word(text: &[u8], at: usize, word: &[u8; 4]) -> usize
-    requires { (at ≤ length text.now) × (length word.now ≡ 4) }
+    requires { at ≤ length text.now }
     ensures { result ≡ shared word.now (drop at text.now) }
 {
     for i in 0..4 {
-        if text.len() - at <= i {
-            return i;
-        }
-        if text[at + i] != word[i] {
+        if text.len() - at <= i || text[at + i] != word[i] {
             return i;
         }
     }
@@ -44,8 +40,8 @@ fn shared_word(text: &[u8], at: usize, word: &[u8; 4]) -> usize
 }
 
 // Keeps a number in its place of the row, if the row has that place.
+// Room and a count, no ArrayVec: numbers past the room are counted too, for refusal 3.
 fn keep_number(row: &mut [u32; WIDEST], place: usize, value: u32)
-    requires { length row.old ≡ widest }
     ensures { row.new ≡ set row.old place value }
 {
     if place < WIDEST {
@@ -57,10 +53,7 @@ fn keep_number(row: &mut [u32; WIDEST], place: usize, value: u32)
 fn end_line(text: &[u8], at: usize, count: usize) -> Result<Line, Stuck>
     ensures { result ≡ feed_read count at (drop at text.now) }
 {
-    if text.len() <= at {
-        return Err(Stuck(at));
-    }
-    if text[at] != b'\n' {
+    if text.len() <= at || text[at] != b'\n' {
         return Err(Stuck(at));
     }
     Ok(Line {
@@ -71,36 +64,36 @@ fn end_line(text: &[u8], at: usize, count: usize) -> Result<Line, Stuck>
 
 // Reads the numbers of a line into a row, from the place behind the first space.
 fn read_numbers(text: &[u8], from: usize, row: &mut [u32; WIDEST]) -> Result<Line, Stuck>
-    requires { (from ≤ length text.now) × (length row.old ≡ widest) }
+    requires { from ≤ length text.now }
     ensures { LineDone [] text.now from row.old result row.new }
 {
     let mut at = from;
     let mut count: usize = 0;
+    // a loop: where the next number begins is known only behind this one
     loop {
         let found = read_number(text, at);
+        // a local of its own: of `found.number` in place, the parts lose the names by which the proof cites them
         let number = found.number;
+        // the number reader by `let .. else`, the form that docs/SCOPE.md names
         let Some(Number { value, next }) = number else {
             return Err(Stuck(found.from));
         };
         keep_number(row, count, value);
         count += 1;
-        if text.len() <= next {
+        let Some(&b) = text.get(next) else {
             return Err(Stuck(next));
+        };
+        match b {
+            b'\n' => {
+                return Ok(Line {
+                    count,
+                    next: next + 1,
+                });
+            }
+            b'\r' => return end_line(text, next + 1, count),
+            b' ' => at = next + 1,
+            _ => return Err(Stuck(next)),
         }
-        let b = text[next];
-        if b == b'\n' {
-            return Ok(Line {
-                count,
-                next: next + 1,
-            });
-        }
-        if b == b'\r' {
-            return end_line(text, next + 1, count);
-        }
-        if b != b' ' {
-            return Err(Stuck(next));
-        }
-        at = next + 1;
     }
 }
 
@@ -111,7 +104,7 @@ pub fn read_line(
     word: &[u8; 4],
     row: &mut [u32; WIDEST],
 ) -> Result<Line, Stuck>
-    requires { (at ≤ length text.now) × (length word.now ≡ 4) × (length row.old ≡ widest) }
+    requires { at ≤ length text.now }
     ensures { LineDone word.now text.now at row.old result row.new }
 {
     let same = shared_word(text, at, word);

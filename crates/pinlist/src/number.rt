@@ -13,6 +13,7 @@ pub struct Number {
 }
 
 // What the number reader answers: the end of a run of spaces, and the number that stands there, if one does.
+// The place is told where no number stands too, so it is a field: docs/PROMISES.md names `NumberFound` so.
 #[derive(Clone, Copy, Debug, PartialEq, Eq)]
 pub struct NumberAt {
     pub from: usize,
@@ -20,6 +21,7 @@ pub struct NumberAt {
 }
 
 // Reads the number behind the run of spaces, of none or more, that begins at byte `at`.
+// The whole text and a place: `NumberFound`, named in docs/PROMISES.md, tells places of the whole text.
 pub fn read_number(text: &[u8], at: usize) -> NumberAt
     ensures { NumberFound text.now at result }
 {
@@ -32,25 +34,22 @@ pub fn read_number(text: &[u8], at: usize) -> NumberAt
 fn spaces_end(text: &[u8], at: usize) -> usize
     ensures { result ≡ spaces_end at (drop at text.now) }
 {
-    let mut end = at;
-    while end < text.len() {
+    for end in at..text.len() {
         if text[end] != b' ' {
             return end;
         }
-        end += 1;
     }
-    end
+    at.max(text.len())
 }
 
 // Reads the number that begins at byte `at`: 0, or digits with no leading zero, as many as there are.
 fn number_at(text: &[u8], at: usize) -> Option<Number>
     ensures { result ≡ number_read text.now at }
 {
-    if text.len() <= at {
+    let Some(&first) = text.get(at) else {
         return None;
-    }
-    let first = text[at];
-    if first < b'0' || b'9' < first {
+    };
+    if !first.is_ascii_digit() {
         return None;
     }
     if first == b'0' {
@@ -62,7 +61,7 @@ fn number_at(text: &[u8], at: usize) -> Option<Number>
     let mut value = (first - b'0') as u32;
     for next in at + 1..text.len() {
         let b = text[next];
-        if b < b'0' || b'9' < b {
+        if !b.is_ascii_digit() {
             return Some(Number { value, next });
         }
         value = with_digit(value, b);
@@ -74,13 +73,10 @@ fn number_at(text: &[u8], at: usize) -> Option<Number>
 }
 
 // The value with one more digit behind it, 512 where it is over 511.
+// 512 and no enum: the row holds it until the row check refuses it (`kept`).
 fn with_digit(value: u32, digit: u8) -> u32
     requires { (value ≤ suc highest_net) × (48 ≤ digit) × (digit ≤ 57) }
     ensures { result ≡ kept (value * 10 + (digit - 48)) }
 {
-    let more = value * 10 + (digit - b'0') as u32;
-    if HIGHEST_NET < more {
-        return HIGHEST_NET + 1;
-    }
-    more
+    (value * 10 + (digit - b'0') as u32).min(HIGHEST_NET + 1)
 }

@@ -1,21 +1,35 @@
 -- What the parts of the programs' code write and answer.
-use Rattle.std.specs.Prelude.{ℕ, ◌≤◌, ◌≡◌, List, [], ◌++◌, Bool, true, false, cond, length, take, ltb, eqb}
+use Rattle.std.specs.Prelude.{ℕ, ◌≡◌, List, [], ◌++◌, Bool, true, false, cond, length, take, ltb, eqb}
 use Rattle.std.proofs.Math.Option.{Option, none, some}
 use Rattle.refusal.specs.declared.Refusal.{Refusal}
 use Rattle.refusal.specs.Refusals.{number_of, place_of}
 use Rattle.channel.specs.Channel.{Channel, width, rows}
 use Rattle.channel.specs.Density.{density}
 use Rattle.channel.specs.Constraints.{chain}
-use Rattle.channel.specs.Answers.{Escapes}
 use Rattle.blanks.specs.Stock.{stock, smallest_for}
 use Rattle.pinlist.specs.Answers.{text_refusal}
-use Rattle.text.specs.Lines.{Put}
 use Rattle.report.specs.declared.Figures.{Figures}
-use Rattle.report.specs.Lines.{refusal_line}
+use Rattle.report.specs.Lines.{refused_line, refusal_line}
 use Rattle.report.specs.Code.{ring_text}
-use Rattle.programs.specs.declared.PinsRead.{PinsRead}
-use Rattle.programs.specs.declared.PinsRead.TheVariants as pins
-use Rattle.programs.specs.Programs.{input_limit, of_pin_list}
+use Rattle.programs.specs.declared.pins.Pins.{Pins}
+use Rattle.programs.specs.declared.Unread.{Unread}
+use Rattle.programs.specs.declared.Unread.TheVariants.{OverLimit, Refused}
+use Rattle.programs.specs.Programs.{input_limit, over_limit, of_pin_list}
+
+-- the line of an input that was not read
+abbrev pub unread_line : Unread → List ℕ
+unread_line OverLimit = refused_line over_limit
+unread_line (Refused r) = refusal_line r
+
+-- the rows that were read, and their channel
+abbrev pub top_of : Pins → List ℕ
+top_of pins = take pins.width pins.top
+
+abbrev pub bot_of : Pins → List ℕ
+bot_of pins = take pins.width pins.bot
+
+abbrev pub channel_of : Pins → Channel
+channel_of pins = rows (top_of pins) (bot_of pins)
 
 -- the lines of a refusal of the router, where the front of `ring` holds the pairs under 7
 unfoldable pub unrouted_text : Refusal → List ℕ → List ℕ
@@ -41,23 +55,12 @@ silent (some r) = false
 unfoldable pub pins_pass : List ℕ → Bool
 pins_pass text = cond (ltb input_limit (length text)) false (silent (text_refusal text))
 
--- a pin list that does not pass: what every program writes of it stands in the buffer
-pub record PinsRefused (text out out' : List ℕ) (size : ℕ) : Type 0 where
+-- a pin list that does not pass: every program writes the line of it
+pub record PinsUnread (text : List ℕ) (u : Unread) : Type 0 where
   pub fails : false ≡ pins_pass text
-  pub wrote : (output : Channel → List ℕ) → Put out 0 (of_pin_list output text) out' size
-  pub few : size ≤ 64
+  pub wrote : (output : Channel → List ℕ) → unread_line u ≡ of_pin_list output text
 
--- the rows that a pin list was read into: their fronts of width w are the rows of its channel, which escapes 3 to 5
-pub record ReadRows (text top bot : List ℕ) (w : ℕ) : Type 0 where
+-- a pin list that passes: what every program writes of the rows that were read
+pub record PinsRead (text : List ℕ) (pins : Pins) : Type 0 where
   pub passes : true ≡ pins_pass text
-  pub top-inside : w ≤ length top
-  pub bot-inside : w ≤ length bot
-  pub top-size : w ≡ length (take w top)
-  pub bot-size : w ≡ length (take w bot)
-  pub escape : Escapes (rows (take w top) (take w bot))
-  pub output : (output : Channel → List ℕ) → output (rows (take w top) (take w bot)) ≡ of_pin_list output text
-
--- What `read_pins` answers, and what the rows and the buffer then hold.
-pub record PinsDone (text out : List ℕ) (r : PinsRead) (top bot out' : List ℕ) : Type 0 where
-  pub refused : {n : ℕ} → r ≡ pins.Refused n → PinsRefused text out out' n
-  pub read : {w : ℕ} → r ≡ pins.Width w → ReadRows text top bot w × (out' ≡ out)
+  pub output : (output : Channel → List ℕ) → output (channel_of pins) ≡ of_pin_list output text

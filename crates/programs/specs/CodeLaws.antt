@@ -1,15 +1,15 @@
 -- From what the library's functions answer to what the programs write: of a text that is refused or read, of a refusal,
 -- and of a board that is judged.
-use Rattle.std.specs.Prelude.{ℕ, suc, ◌≤◌, ◌<◌, refl, List, [], ◌∷◌, ◌++◌, take, Result, Ok, Err}
+use Rattle.std.specs.Prelude.{ℕ, suc, ◌≤◌, ◌<◌, refl, List, [], ◌∷◌, ◌++◌, take, Result, Ok, Err, IfOk, IfErr, is_ok}
 use Prim.Native.String.{String}
-use Rattle.std.proofs.Common.{arith, ◌∙◌, append-nil, length-take-le, lt-ltb, le-ltb, eq-eqb, ne_eqb}
+use Rattle.std.proofs.Common.{arith, ◌∙◌, append-nil, length-take-le, lt-ltb, le-ltb, ne_eqb}
 use Rattle.std.proofs.Math.Path.{◌≡◌, sym, ap, subst}
 use Rattle.std.proofs.Math.Option.{Option, none, some}
-use Rattle.std.proofs.Math.ListN.{length, length-take}
+use Rattle.std.proofs.Math.ListN.{length}
 use Rattle.io.specs.Counts.{IsPrefixLen}
 use Rattle.lists.specs.Overlays.{overlay-front}
 use Rattle.refusal.specs.declared.Refusal.{Refusal}
-use Rattle.refusal.specs.Refusals.{told_at, Told, number_of, place_of, refuse_if, ok_unless, filled_unless}
+use Rattle.refusal.specs.Refusals.{told_at, Told, number_of, refuse_if, ok_unless, filled_unless}
 use Rattle.refusal.specs.ChainLaws.{or_else_none, answered-none, answered-some, ok→none, err→some}
 use Rattle.refusal.specs.TrayLaws.{refusal-numbered}
 use Rattle.refusal.specs.Trays.{row_tray, record_tray}
@@ -25,27 +25,49 @@ use Rattle.judge.specs.declared.JudgeAnswer.TheVariants as judging
 use Rattle.judge.specs.Answers.{fault_number, fault_place, judge_told}
 use Rattle.judge.proofs.OnBytes.{fault-numbered}
 use Rattle.blanks.specs.Stock.{stock, smallest_for, no_blank, blank_answer}
-use Rattle.text.specs.Lines.{line, Put}
-use Rattle.text.specs.PutLaws.{put_same}
+use Rattle.text.specs.Lines.{line}
 use Rattle.report.specs.Lines.{refused_line, told_line, refusal_line}
 use Rattle.report.specs.Code.{ring_text}
-use Rattle.programs.specs.declared.PinsRead.TheVariants as pins
+use Rattle.programs.specs.declared.pins.Pins.{Pins}
+use Rattle.programs.specs.declared.Unread.{Unread}
+use Rattle.programs.specs.declared.Unread.TheVariants.{OverLimit, Refused}
+use Rattle.refusal.specs.declared.Refusal.TheVariants.{ShortTray, Garbled, TooWide, Uneven, HighNet, Tangled, Torn, BadField, WrongBoard, NoBlank, BadTable, NoStock, PanelFull, BadSpan, AlreadyHere, NotHere}
 use Rattle.programs.specs.Programs.{input_limit, over_limit, within_limit, of_pin_list, judge_lines}
-use Rattle.programs.specs.Code.{unrouted_text, silent, pins_pass, PinsRefused, ReadRows, PinsDone}
+use Rattle.programs.specs.Code.{unrouted_text, silent, pins_pass, PinsUnread, PinsRead}
 
 -- what is written within a buffer can be taken from its front
 pub counts : (r : ℕ) (after : List ℕ) → r ≤ length after → IsPrefixLen r after
 counts r after h = (h, sym (length-take-le r after h))
 
--- a refusal of the router: with the lines of a ring behind its line under 7, and alone otherwise
-module _ (q : Refusal) (ring : List ℕ) where
-  pub with-ring : number_of q ≡ 7 → refusal_line q ++ ring_text ring (place_of q) ≡ unrouted_text q ring
-  unfolding unrouted_text
-  with-ring seven = sym (rw (eq-eqb (number_of q) 7 seven))
+-- refusal 7 of the router, with the lines of a ring behind its line
+pub with-ring : (pairs : ℕ) (ring : List ℕ)
+    → refusal_line (Tangled pairs) ++ ring_text ring pairs ≡ unrouted_text (Tangled pairs) ring
+unfolding unrouted_text
+with-ring pairs ring = refl
 
-  pub without-ring : (number_of q ≡ 7 → ⊥) → refusal_line q ≡ unrouted_text q ring
-  unfolding unrouted_text
-  without-ring other = sym (rw (ne_eqb (number_of q) 7 other) (append-nil (refusal_line q)))
+-- any other refusal stands alone
+not-seven : (q : Refusal) → ((p : ℕ) → q ≡ Tangled p → ⊥) → number_of q ≡ 7 → ⊥
+not-seven (ShortTray p) other seven = omega arith
+not-seven (Garbled p) other seven = omega arith
+not-seven (TooWide p) other seven = omega arith
+not-seven (Uneven p) other seven = omega arith
+not-seven (HighNet p) other seven = omega arith
+not-seven (Tangled p) other seven = other p refl
+not-seven (Torn p) other seven = omega arith
+not-seven (BadField p) other seven = omega arith
+not-seven (WrongBoard p) other seven = omega arith
+not-seven (NoBlank p) other seven = omega arith
+not-seven (BadTable p) other seven = omega arith
+not-seven (NoStock p) other seven = omega arith
+not-seven (PanelFull p) other seven = omega arith
+not-seven (BadSpan p) other seven = omega arith
+not-seven (AlreadyHere p) other seven = omega arith
+not-seven (NotHere p) other seven = omega arith
+
+pub without-ring : (q : Refusal) (ring : List ℕ)
+    → ((p : ℕ) → q ≡ Tangled p → ⊥) → refusal_line q ≡ unrouted_text q ring
+unfolding unrouted_text
+without-ring q ring other = sym (rw (ne_eqb (number_of q) 7 (not-seven q other)) (append-nil (refusal_line q)))
 
 -- the line of what the judge answered
 told-refused : (word : String) (t : Told) → 0 < t.number → refused_line t ≡ told_line word t
@@ -64,21 +86,6 @@ pub refused-line : (q : Refusal) → refusal_line q ≡ judge_lines (judging.Ref
 unfolding judge_lines judge_told
 refused-line q = told-refused "GOOD" (judge_told (judging.Refused q)) (refusal-numbered q)
 
--- what `read_pins` tells of a pin list that does not pass, and of one that was read
-pub told-fails : {text out top bot out' : List ℕ} {n : ℕ}
-    → PinsRefused text out out' n → PinsDone text out (pins.Refused n) top bot out'
-told-fails {text} {out} {top} {bot} {out'} {n} p = record {
-  refused = λ {n = m} e. let same : n ≡ m = cc in subst (PinsRefused text out out') same p;
-  read = λ e. absurd (let z : ◌≡◌ {A = ℕ} 0 1 = cc in omega arith);
-}
-
-pub told-read : {text out top bot : List ℕ} {w : ℕ}
-    → ReadRows text top bot w → PinsDone text out (pins.Width w) top bot out
-told-read {text} {out} {top} {bot} {w} p = record {
-  refused = λ e. absurd (let z : ◌≡◌ {A = ℕ} 0 1 = cc in omega arith);
-  read = λ {w = v} e. let same : w ≡ v = cc in (subst (ReadRows text top bot) same p, refl);
-}
-
 module _ (text : List ℕ) where
   -- an input over the limit
   pub over-limit : (output : List ℕ) → input_limit < length text → refused_line over_limit ≡ within_limit text output
@@ -89,14 +96,9 @@ module _ (text : List ℕ) where
   unfolding within_limit
   in-limit output h = sym (rw (le-ltb input_limit (length text) h))
 
-  pub over-refused : {out out' : List ℕ} {n : ℕ}
-      → input_limit < length text → Put out 0 (refused_line over_limit) out' n → n ≤ 64 → PinsRefused text out out' n
+  pub over-unread : input_limit < length text → PinsUnread text OverLimit
   unfolding of_pin_list pins_pass
-  over-refused h p few = record {
-    fails = rw (lt-ltb input_limit (length text) h);
-    wrote = λ output. put_same p (over-limit _ h);
-    few = few;
-  }
+  over-unread h = record { fails = rw (lt-ltb input_limit (length text) h); wrote = λ output. over-limit _ h }
 
   module _ (h : length text ≤ input_limit) where
     pass-by : (a : Option Refusal) → text_refusal text ≡ a → silent a ≡ pins_pass text
@@ -114,15 +116,13 @@ module _ (text : List ℕ) where
       read-refused : (q : Refusal) → r ≡ Err q → text_refusal text ≡ some q
       read-refused q e = err→some _ (text_refusal text) (sym told ∙ e)
 
-      pub text-refused : {q : Refusal} {out out' : List ℕ} {n : ℕ}
-          → r ≡ Err q → Put out 0 (refusal_line q) out' n → n ≤ 64 → PinsRefused text out out' n
+      pub text-refused : (q : Refusal) → r ≡ Err q → PinsUnread text (Refused q)
       unfolding of_pin_list silent
-      text-refused {q} e p few = record {
+      text-refused q e = record {
         fails = pass-by (some q) (read-refused q e);
         wrote = λ output.
             let line = answered-some refusal_line (text_refusal text) (output (text_channel text)) q (read-refused q e) in
-            put_same p (sym line ∙ in-limit _ h);
-        few = few;
+            sym line ∙ in-limit _ h;
       }
 
       module _ {w : ℕ} (e : r ≡ Ok w) where
@@ -158,29 +158,25 @@ module _ (text : List ℕ) where
             sym (answered-none refusal_line (text_refusal text) (output (text_channel text)) read-silent.0)
             ∙ in-limit _ h
 
-        pub read-rows : ReadRows text top' bot' w
-        unfolding silent
-        read-rows =
-            let top-size = read-silent.1 ∙ ap length (sym top-front) in
-            let bot-size = read-silent.1 ∙ (sym escapes.even ∙ ap length (sym bot-front)) in
-            let top_taken = length-take w top' in
-            let bot-taken = length-take w bot' in
-            record {
-              passes = pass-by none read-silent.0;
-              top-inside = omega arith;
-              bot-inside = omega arith;
-              top-size = top-size;
-              bot-size = bot-size;
-              escape = subst Escapes same_rows escapes;
-              output = λ output. ap output (sym same_rows) ∙ output-read output;
-            }
+        pub front-escapes : Escapes (rows (take w top') (take w bot'))
+        front-escapes = subst Escapes same_rows escapes
 
--- what is written of the rows that were read
-pub rows-output : {text top bot out mid after : List ℕ} {w n : ℕ}
-    → ReadRows text top bot w × (mid ≡ out) → (output : Channel → List ℕ)
-    → Put mid 0 (output (rows (take w top) (take w bot))) after n → Put out 0 (of_pin_list output text) after n
-rows-output {text} {top} {bot} {out} {mid} {after} {w} {n} (read, same) output put =
-    put_same (rw same at put) (read.output output)
+        pub width-fits : w ≤ row_tray
+        width-fits = let narrow = escapes.narrow in omega (arith, read-silent.1)
+
+        pub read-rows : (pins : Pins) → pins.top ≡ top' → pins.bot ≡ bot' → pins.width ≡ w → PinsRead text pins
+        unfolding silent
+        read-rows pins tops bots widths = record {
+          passes = pass-by none read-silent.0;
+          output = λ output.
+              rw (tops, bots, widths) (ap output (sym same_rows) ∙ output-read output);
+        }
+
+-- a pin list passes just if it is read
+pub passes : (text : List ℕ) (r : Result Pins Unread) → IfOk r (PinsRead text) → IfErr r (PinsUnread text)
+    → is_ok r ≡ pins_pass text
+passes text (Ok pins) read unread = read.passes
+passes text (Err u) read unread = unread.fails
 
 -- rows that escape have bounds, and few tracks have a blank
 pub bounds-told : (ch : Channel) → Escapes ch → bounds_answer ch ≡ Ok (bounds_of ch)

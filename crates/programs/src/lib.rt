@@ -1,22 +1,25 @@
 // What the programs write, of the bytes that they read. A program itself only reads and writes.
 #![tactic(auto)]
 
-ghost use Rattle.std.specs.Prelude.{◌≡◌, ◌≤◌, length, take};
+ghost use Rattle.std.specs.Prelude.{◌≡◌, ◌≤◌, Ok, length, take};
 ghost use Rattle.io.specs.Counts.{IsPrefixLen};
 ghost use Rattle.refusal.specs.Refusals.{place_of};
 ghost use Rattle.refusal.specs.Trays.{row_tray, record_tray, ring_tray};
 ghost use Rattle.channel.specs.Channel.{rows};
-ghost use Rattle.channel.specs.Answers.{Escapes};
 ghost use Rattle.text.specs.Lines.{Put};
-ghost use Rattle.report.specs.Lines.{refused_line, refusal_line};
+ghost use Rattle.report.specs.Lines.{refusal_line};
 ghost use Rattle.report.specs.Code.{listing_text};
-ghost use Rattle.programs.specs.Programs.{over_limit, of_filled, listing, board_bytes, judge_lines, judged_against};
+ghost use Rattle.programs.specs.declared.Unread.TheVariants.{Refused};
+ghost use Rattle.programs.specs.Programs.{of_filled, listing, board_bytes, judge_lines, judged_against};
 ghost use Rattle.programs.specs.Programs.{fewest_lines, listing_output, board_output, judge_output, ring_output};
 ghost use Rattle.programs.specs.Programs.{of_pin_list, pin_list, panel_lines, panel_output};
-ghost use Rattle.programs.specs.Code.{unrouted_text, figures_of, pins_pass, PinsDone};
+ghost use Rattle.programs.specs.Code.{unread_line, channel_of, unrouted_text, figures_of, pins_pass};
+
+mod pins;
 
 use channel::LowerBounds;
 use judge::JudgeAnswer;
+use pins::Pins;
 use refusal::{BOARD_TRAY, RING_TRAY, ROW_TRAY, Refusal, SCRATCH_TRAY};
 use report::Figures;
 use router::{Drawn, Routing};
@@ -24,13 +27,32 @@ use router::{Drawn, Routing};
 // The most bytes of an input that is handed to the library.
 const INPUT_LIMIT: usize = 65536;
 
-// The line of an input over the limit; answers its length.
-fn put_over(out: &mut [u8]) -> usize
-    requires { 64 ≤ length out.old }
-    ensures put { Put out.old 0 (refused_line over_limit) out.new result }
-    ensures upper_bound { result ≤ 64 }
+// The room that a program reads an input into: one byte over the limit tells an input that is over it.
+pub const INPUT_ROOM: usize = INPUT_LIMIT + 1;
+
+// The room that a program has what it writes put into.
+pub const OUTPUT_ROOM: usize = 65536;
+
+// Why a pin list was not read: it is over the limit, or it is refused.
+#[derive(Clone, Copy, Debug, PartialEq, Eq)]
+enum Unread {
+    OverLimit,
+    Refused(Refusal),
+}
+
+impl From<Refusal> for Unread {
+    ghost from_gives = { λ refusal r. r ≡ Refused refusal };
+
+    fn from(refusal: Refusal) -> Unread {
+        Unread::Refused(refusal)
+    }
+}
+
+// Whether a pin list is within the limit and not refused.
+pub fn pins_pass(pins: &[u8]) -> bool
+    ensures { result ≡ pins_pass pins.now }
 {
-    report::put_refused(out, 0, INPUT_LIMIT as u64)
+    Pins::read(pins).is_ok()
 }
 
 // The line of a refusal; answers its length.
@@ -46,42 +68,15 @@ fn put_refusal(out: &mut [u8], refusal: Refusal) -> usize
     )
 }
 
-// What came of reading a pin list: so many bytes of its refusal written, or the width of its rows.
-#[derive(Clone, Copy)]
-enum PinsRead {
-    Refused(usize),
-    Width(usize),
-}
-
-// Reads a pin list into two rows, or puts the line of its refusal at the front of `out`.
-fn read_pins(
-    text: &[u8],
-    top: &mut [u32; ROW_TRAY],
-    bot: &mut [u32; ROW_TRAY],
-    out: &mut [u8],
-) -> PinsRead
+// The line of an input that was not read; answers its length.
+fn put_unread(out: &mut [u8], unread: Unread) -> usize
     requires { 64 ≤ length out.old }
-    ensures { PinsDone text.now out.old result top.new bot.new out.new }
+    ensures put { Put out.old 0 (unread_line unread) out.new result }
+    ensures upper_bound { result ≤ 64 }
 {
-    if INPUT_LIMIT < text.len() {
-        return PinsRead::Refused(put_over(out));
-    }
-    match pinlist::read(text, top, bot) {
-        Err(refusal) => PinsRead::Refused(put_refusal(out, refusal)),
-        Ok(w) => PinsRead::Width(w),
-    }
-}
-
-// Whether a pin list is within the limit and not refused.
-pub fn pins_pass(pins: &[u8]) -> bool
-    ensures { result ≡ pins_pass pins.now }
-{
-    let mut top = [0u32; ROW_TRAY];
-    let mut bot = [0u32; ROW_TRAY];
-    let mut line = [0u8; 64];
-    match read_pins(pins, &mut top, &mut bot, &mut line) {
-        PinsRead::Refused(_) => false,
-        PinsRead::Width(_) => true,
+    match unread {
+        Unread::OverLimit => report::put_refused(out, 0, INPUT_LIMIT as u64),
+        Unread::Refused(refusal) => put_refusal(out, refusal),
     }
 }
 
@@ -92,93 +87,83 @@ fn put_unrouted(out: &mut [u8], refusal: Refusal, ring: &[u32]) -> usize
     ensures upper_bound { result ≤ 65536 }
 {
     let size = put_refusal(out, refusal);
-    if refusal::number_of(refusal) == 7 {
-        return report::put_ring(out, size, ring, refusal::place_of(refusal));
+    match refusal {
+        Refusal::Tangled(pairs) => report::put_ring(out, size, ring, pairs),
+        _ => size,
     }
-    size
+}
+
+// The figures of a channel that is routed.
+fn figures(pins: &Pins, drawn: Drawn) -> Result<Figures, Refusal>
+    requires { drawn.tracks ≤ record_tray }
+    ensures { result ≡ Ok (figures_of (channel_of pins.now) drawn.tracks drawn.pieces) }
+{
+    let LowerBounds { density, chain } = channel::bounds(pins.top(), pins.bot())?;
+    let blank = blanks::blank(drawn.tracks)?;
+    Ok(Figures {
+        width: pins.top().len() as u32,
+        tracks: drawn.tracks,
+        blank,
+        density,
+        chain,
+        pieces: drawn.pieces,
+    })
 }
 
 // The listing of a channel that is routed.
-fn put_routed(
-    out: &mut [u8],
-    top: &[u32],
-    bot: &[u32],
-    routing: Routing,
-    tracks: u32,
-    pieces: u32,
-) -> usize
-    requires { Escapes (rows top.now bot.now) × (tracks ≤ record_tray) × (routing.count ≤ record_tray)
-        × (65536 ≤ length out.old) }
+fn put_routed(out: &mut [u8], pins: &Pins, routing: &Routing, drawn: Drawn) -> usize
+    requires { (drawn.tracks ≤ record_tray) × (routing.now.count ≤ record_tray) × (65536 ≤ length out.old) }
     ensures put { Put out.old 0
-        (listing_text (figures_of (rows top.now bot.now) tracks pieces)
-        (take routing.count routing.records))
+        (listing_text (figures_of (channel_of pins.now) drawn.tracks drawn.pieces)
+        (take routing.now.count routing.now.records))
         out.new result }
     ensures upper_bound { result ≤ 65536 }
 {
-    match channel::bounds(top, bot) {
+    match figures(pins, drawn) {
+        Ok(figures) => report::put_listing(out, figures, &routing.records[..routing.count]),
         Err(refusal) => put_refusal(out, refusal),
-        Ok(LowerBounds { density, chain }) => match blanks::blank(tracks) {
-            Err(refusal) => put_refusal(out, refusal),
-            Ok(blank) => {
-                let figures = Figures {
-                    width: top.len() as u32,
-                    tracks,
-                    blank,
-                    density,
-                    chain,
-                    pieces,
-                };
-                let records = routing.records;
-                report::put_listing(out, figures, records, routing.count)
-            }
-        },
     }
 }
 
 // The listing of a channel that is accepted, or refusal 7.
-fn list_channel(top: &[u32], bot: &[u32], out: &mut [u8]) -> usize
-    requires { Escapes (rows top.now bot.now) × (65536 ≤ length out.old) }
-    ensures put { Put out.old 0
-        (of_filled listing (rows top.now bot.now)) out.new result }
+fn list_channel(pins: &Pins, out: &mut [u8]) -> usize
+    requires { 65536 ≤ length out.old }
+    ensures put { Put out.old 0 (of_filled listing (channel_of pins.now)) out.new result }
     ensures upper_bound { result ≤ 65536 }
 {
     let mut ring = [0u32; RING_TRAY];
     let mut board = [0u8; BOARD_TRAY];
-    let routing = router::route_rows(top, bot, &mut ring, &mut board);
-    let answer = routing.answer;
-    match answer {
+    let routing = router::route_rows(pins.top(), pins.bot(), &mut ring, &mut board);
+    match routing.answer {
+        Ok(drawn) => put_routed(out, pins, &routing, drawn),
         Err(refusal) => put_unrouted(out, refusal, &ring),
-        Ok(Drawn { tracks, pieces }) => put_routed(out, top, bot, routing, tracks, pieces),
     }
 }
 
 // What the listing program writes of the text that it reads, at the front of `out`; answers how many bytes that is.
+// Here and below a match of two arms: the clauses on a closure for the step would be longer.
 pub fn listing_output(text: &[u8], out: &mut [u8]) -> usize
     requires { 65536 ≤ length out.old }
     ensures put { Put out.old 0 (listing_output text.now) out.new result }
     ensures prefix_len { IsPrefixLen result out.new }
 {
-    let mut top = [0u32; ROW_TRAY];
-    let mut bot = [0u32; ROW_TRAY];
-    match read_pins(text, &mut top, &mut bot, out) {
-        PinsRead::Refused(size) => size,
-        PinsRead::Width(w) => list_channel(&top[..w], &bot[..w], out),
+    match Pins::read(text) {
+        Ok(pins) => list_channel(&pins, out),
+        Err(unread) => put_unread(out, unread),
     }
 }
 
 // The board file of a channel that is accepted, or refusal 7.
-fn board_channel(top: &[u32], bot: &[u32], out: &mut [u8]) -> usize
-    requires { Escapes (rows top.now bot.now) × (65536 ≤ length out.old) }
-    ensures put { Put out.old 0
-        (of_filled board_bytes (rows top.now bot.now)) out.new result }
+fn board_channel(pins: &Pins, out: &mut [u8]) -> usize
+    requires { 65536 ≤ length out.old }
+    ensures put { Put out.old 0 (of_filled board_bytes (channel_of pins.now)) out.new result }
     ensures upper_bound { result ≤ 65536 }
 {
     let mut ring = [0u32; RING_TRAY];
-    let routing = router::route_rows(top, bot, &mut ring, out);
-    let answer = routing.answer;
-    match answer {
-        Err(refusal) => put_unrouted(out, refusal, &ring),
+    let routing = router::route_rows(pins.top(), pins.bot(), &mut ring, out);
+    match routing.answer {
         Ok(drawn) => 4 + 4 * drawn.pieces as usize,
+        Err(refusal) => put_unrouted(out, refusal, &ring),
     }
 }
 
@@ -188,22 +173,20 @@ pub fn board_output(text: &[u8], out: &mut [u8]) -> usize
     ensures put { Put out.old 0 (board_output text.now) out.new result }
     ensures prefix_len { IsPrefixLen result out.new }
 {
-    let mut top = [0u32; ROW_TRAY];
-    let mut bot = [0u32; ROW_TRAY];
-    match read_pins(text, &mut top, &mut bot, out) {
-        PinsRead::Refused(size) => size,
-        PinsRead::Width(w) => board_channel(&top[..w], &bot[..w], out),
+    match Pins::read(text) {
+        Ok(pins) => board_channel(&pins, out),
+        Err(unread) => put_unread(out, unread),
     }
 }
 
 // The lines of the ring with the fewest nets of a channel that is accepted.
-fn ring_channel(top: &[u32], bot: &[u32], out: &mut [u8]) -> usize
-    requires { Escapes (rows top.now bot.now) × (65536 ≤ length out.old) }
-    ensures put { Put out.old 0 (fewest_lines (rows top.now bot.now)) out.new result }
+fn ring_channel(pins: &Pins, out: &mut [u8]) -> usize
+    requires { 65536 ≤ length out.old }
+    ensures put { Put out.old 0 (fewest_lines (channel_of pins.now)) out.new result }
     ensures upper_bound { result ≤ 65536 }
 {
     let mut ring = [0u32; RING_TRAY];
-    match rings::fewest_ring(top, bot, &mut ring) {
+    match rings::fewest_ring(pins.top(), pins.bot(), &mut ring) {
         Ok(Some(pairs)) => report::put_ring(out, 0, &ring, pairs as usize),
         Ok(None) => report::put_none(out),
         Err(refusal) => put_refusal(out, refusal),
@@ -216,11 +199,9 @@ pub fn ring_output(text: &[u8], out: &mut [u8]) -> usize
     ensures put { Put out.old 0 (ring_output text.now) out.new result }
     ensures prefix_len { IsPrefixLen result out.new }
 {
-    let mut top = [0u32; ROW_TRAY];
-    let mut bot = [0u32; ROW_TRAY];
-    match read_pins(text, &mut top, &mut bot, out) {
-        PinsRead::Refused(size) => size,
-        PinsRead::Width(w) => ring_channel(&top[..w], &bot[..w], out),
+    match Pins::read(text) {
+        Ok(pins) => ring_channel(&pins, out),
+        Err(unread) => put_unread(out, unread),
     }
 }
 
@@ -244,18 +225,19 @@ fn put_judged(out: &mut [u8], answer: JudgeAnswer) -> usize
 }
 
 // The line of a board judged against a channel that is accepted.
-fn judge_channel(top: &[u32], bot: &[u32], board: &[u8], out: &mut [u8]) -> usize
+fn judge_channel(pins: &Pins, board: &[u8], out: &mut [u8]) -> usize
     requires { 64 ≤ length out.old }
-    ensures put { Put out.old 0
-        (judged_against board.now (rows top.now bot.now))
-        out.new result }
+    ensures put { Put out.old 0 (judged_against board.now (channel_of pins.now)) out.new result }
     ensures upper_bound { result ≤ 64 }
 {
     if INPUT_LIMIT < board.len() {
-        return put_over(out);
+        return put_unread(out, Unread::OverLimit);
     }
     let mut scratch = [0u32; SCRATCH_TRAY];
-    put_judged(out, judge::judge(top, bot, board, &mut scratch))
+    put_judged(
+        out,
+        judge::judge(pins.top(), pins.bot(), board, &mut scratch),
+    )
 }
 
 // What the program that judges writes of the two files that it reads.
@@ -264,11 +246,9 @@ pub fn judge_output(pins: &[u8], board: &[u8], out: &mut [u8]) -> usize
     ensures put { Put out.old 0 (judge_output pins.now board.now) out.new result }
     ensures prefix_len { IsPrefixLen result out.new }
 {
-    let mut top = [0u32; ROW_TRAY];
-    let mut bot = [0u32; ROW_TRAY];
-    match read_pins(pins, &mut top, &mut bot, out) {
-        PinsRead::Refused(size) => size,
-        PinsRead::Width(w) => judge_channel(&top[..w], &bot[..w], board, out),
+    match Pins::read(pins) {
+        Ok(pins) => judge_channel(&pins, board, out),
+        Err(unread) => put_unread(out, unread),
     }
 }
 
@@ -283,35 +263,37 @@ fn put_pin_list(out: &mut [u8], top: &[u32], bot: &[u32]) -> usize
 }
 
 // The pin list of two lists that are joined, each of which is accepted alone, or the line of their refusal.
-fn join_channels(top1: &[u32], bot1: &[u32], top2: &[u32], bot2: &[u32], out: &mut [u8]) -> usize
-    requires { Escapes (rows top1.now bot1.now) × Escapes (rows top2.now bot2.now)
-        × (65536 ≤ length out.old) }
-    ensures put { Put out.old 0
-        (panel_lines (rows top1.now bot1.now) (rows top2.now bot2.now))
-        out.new result }
+fn join_channels(first: &Pins, second: &Pins, out: &mut [u8]) -> usize
+    requires { 65536 ≤ length out.old }
+    ensures put { Put out.old 0 (panel_lines (channel_of first.now) (channel_of second.now)) out.new result }
     ensures upper_bound { result ≤ 65536 }
 {
     let mut top = [0u32; ROW_TRAY];
     let mut bot = [0u32; ROW_TRAY];
-    match panel::join(top1, bot1, top2, bot2, &mut top, &mut bot) {
-        Err(refusal) => put_refusal(out, refusal),
+    match panel::join(
+        first.top(),
+        first.bot(),
+        second.top(),
+        second.bot(),
+        &mut top,
+        &mut bot,
+    ) {
         Ok(w) => put_pin_list(out, &top[..w], &bot[..w]),
+        Err(refusal) => put_refusal(out, refusal),
     }
 }
 
 // The second list joined to one that is accepted.
-fn join_second(top: &[u32], bot: &[u32], second: &[u8], out: &mut [u8]) -> usize
-    requires { Escapes (rows top.now bot.now) × (65536 ≤ length out.old) }
+fn join_second(first: &Pins, second: &[u8], out: &mut [u8]) -> usize
+    requires { 65536 ≤ length out.old }
     ensures put { Put out.old 0
-        (of_pin_list (panel_lines (rows top.now bot.now)) second.now)
+        (of_pin_list (panel_lines (channel_of first.now)) second.now)
         out.new result }
     ensures upper_bound { result ≤ 65536 }
 {
-    let mut top2 = [0u32; ROW_TRAY];
-    let mut bot2 = [0u32; ROW_TRAY];
-    match read_pins(second, &mut top2, &mut bot2, out) {
-        PinsRead::Refused(size) => size,
-        PinsRead::Width(w) => join_channels(top, bot, &top2[..w], &bot2[..w], out),
+    match Pins::read(second) {
+        Ok(second) => join_channels(first, &second, out),
+        Err(unread) => put_unread(out, unread),
     }
 }
 
@@ -321,10 +303,8 @@ pub fn panel_output(first: &[u8], second: &[u8], out: &mut [u8]) -> usize
     ensures put { Put out.old 0 (panel_output first.now second.now) out.new result }
     ensures prefix_len { IsPrefixLen result out.new }
 {
-    let mut top = [0u32; ROW_TRAY];
-    let mut bot = [0u32; ROW_TRAY];
-    match read_pins(first, &mut top, &mut bot, out) {
-        PinsRead::Refused(size) => size,
-        PinsRead::Width(w) => join_second(&top[..w], &bot[..w], second, out),
+    match Pins::read(first) {
+        Ok(first) => join_second(&first, second, out),
+        Err(unread) => put_unread(out, unread),
     }
 }

@@ -1,3 +1,4 @@
+// The refusals of all operations, and the lengths that lent buffers must have.
 #![tactic(auto)]
 
 ghost use Rattle.std.specs.Prelude.{◌≡◌};
@@ -57,6 +58,7 @@ pub enum Refusal {
 }
 
 // The number of a refusal in the shop's table.
+// No From: docs/PROMISES.md names this function and `place_of`.
 pub fn number_of(refusal: Refusal) -> u32
     ensures { result ≡ number_of refusal }
 {

@@ -1,5 +1,6 @@
 -- The lines of a ring that is stored as pairs: one pair more, and the pairs of the steps shown.
-use Rattle.std.specs.Prelude.{ℕ, suc, ◌+◌, ◌*◌, ◌<◌, ◌≡◌, refl, List, [], ◌∷◌, ◌++◌, length, get_or, take}
+use Rattle.std.specs.Prelude.{ℕ, zero, suc, ◌+◌, ◌*◌, ◌<◌, ◌≤◌, ◌≡◌, refl, List, [], ◌∷◌, ◌++◌, length, get_or, take}
+use Rattle.std.specs.Simd.{first_chunks}
 use Rattle.std.proofs.Common.{arith, add-one, sym, ◌∙◌, ap, append-nil, get_or-take}
 use Rattle.lists.specs.Lists.{each, from}
 use Rattle.lists.specs.Arrays.{from-snoc}
@@ -8,6 +9,18 @@ use Rattle.channel.specs.Constraints.{Step}
 use Rattle.leftedge.specs.Walk.{ring_numbers}
 use Rattle.report.specs.Lines.{ring_lines}
 use Rattle.report.specs.Code.{pair_line, ring_text}
+
+-- the numbers of a buffer, two by two
+pub chunk-at : (k : ℕ) (ring : List ℕ) (i : ℕ) → i < k → 2 * k ≤ length ring
+    → get_or (first_chunks 2 k ring) i [] ≡ get_or ring (2 * i) 0 ∷ get_or ring (2 * i + 1) 0 ∷ []
+chunk-at zero ring i h l = absurd (omega arith)
+chunk-at (suc k) [] i h l = absurd (omega arith)
+chunk-at (suc k) (a ∷ []) i h l = absurd (omega arith)
+chunk-at (suc k) (a ∷ b ∷ ring) zero h l = refl
+chunk-at (suc k) (a ∷ b ∷ ring) (suc i) h l =
+    let net : 2 * suc i ≡ suc (suc (2 * i)) = omega arith in
+    let column : suc (suc (2 * i)) + 1 ≡ suc (suc (2 * i + 1)) = omega arith in
+    rw (net, column) (chunk-at k ring i (omega arith) (omega arith))
 
 -- one pair more
 pub ring-more : (ring : List ℕ) (n : ℕ) → ring_text ring (n + 1) ≡ ring_text ring n ++ pair_line ring n

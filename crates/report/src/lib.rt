@@ -3,23 +3,22 @@
 
 ghost use Rattle.std.specs.Prelude.{◌≡◌, [], ◌∷◌, ◌+◌, ◌*◌, ◌≤◌, length, take};
 ghost use Rattle.lists.specs.Lists.{each};
-ghost use Rattle.refusal.specs.Trays.{row_tray, record_tray};
+ghost use Rattle.refusal.specs.Trays.{record_tray};
 ghost use Rattle.text.specs.Lines.{line, line_of, Put};
 ghost use Rattle.refusal.specs.Refusals.{told_at};
 ghost use Rattle.report.specs.Lines.{refused_line, none_line, board_line, bound_line, net_line, end_line};
 ghost use Rattle.report.specs.Code.{ring_text, listing_text};
 
 use leftedge::NetRecord;
-use refusal::{RECORD_TRAY, ROW_TRAY};
 
 // The line of a refusal or fault, at the front of `out`; answers its length.
+// Numbers, for refusals and faults alike: docs/PROMISES.md names the function so.
 pub fn put_refused(out: &mut [u8], number: u64, place: u64) -> usize
     requires { 64 ≤ length out.old }
     ensures put { Put out.old 0 (refused_line (told_at number place)) out.new result }
     ensures upper_bound { result ≤ 64 }
 {
-    let numbers = [number, place];
-    text::put_line(out, 0, b"REFUSED", &numbers)
+    text::put_line(out, 0, b"REFUSED", &[number, place])
 }
 
 // The line of a good board, at the front of `out`; answers its length.
@@ -28,8 +27,7 @@ pub fn put_good(out: &mut [u8], tracks: u64) -> usize
     ensures put { Put out.old 0 (line "GOOD" (tracks ∷ [])) out.new result }
     ensures upper_bound { result ≤ 64 }
 {
-    let numbers = [tracks];
-    text::put_line(out, 0, b"GOOD", &numbers)
+    text::put_line(out, 0, b"GOOD", &[tracks])
 }
 
 // One line of a ring, at byte `at`; answers the place behind it.
@@ -38,20 +36,21 @@ fn put_pair(out: &mut [u8], at: usize, net: u32, column: u32) -> usize
     ensures put { Put out.old at (line "RING" (net ∷ column ∷ [])) out.new result }
     ensures upper_bound { result ≤ at + 64 }
 {
-    let numbers = [net as u64, column as u64];
-    text::put_line(out, at, b"RING", &numbers)
+    text::put_line(out, at, b"RING", &[net, column])
 }
 
 // The lines of a ring, whose pairs of net and column stand at the front of `ring`, from byte `at` on; answers the place
 // behind them.
+// The ring and its pairs are two parameters: docs/PROMISES.md names the function so.
 pub fn put_ring(out: &mut [u8], at: usize, ring: &[u32], pairs: usize) -> usize
     requires { (pairs ≤ record_tray) × (2 * pairs ≤ length ring.now) × (at + 64 * pairs ≤ length out.old) }
     ensures put { Put out.old at (ring_text ring.now pairs) out.new result }
     ensures upper_bound { result ≤ at + 64 * pairs }
 {
     let mut next = at;
-    for i in 0..pairs {
-        next = put_pair(out, next, ring[2 * i], ring[2 * i + 1]);
+    let (steps, _) = ring.as_chunks::<2>();
+    for &[net, column] in &steps[..pairs] {
+        next = put_pair(out, next, net, column);
     }
     next
 }
@@ -62,35 +61,21 @@ pub fn put_none(out: &mut [u8]) -> usize
     ensures put { Put out.old 0 none_line out.new result }
     ensures upper_bound { result ≤ 64 }
 {
-    let numbers = [0u64; 0];
-    text::put_line(out, 0, b"NONE", &numbers)
-}
-
-// Copies the numbers of a row to the front of a wider one.
-fn widen(row: &[u32], to: &mut [u64])
-    requires { length row.now ≤ length to.old }
-    ensures { take (length row.now) to.new ≡ row.now }
-{
-    for (i, &n) in row.iter().enumerate() {
-        to[i] = n as u64;
-    }
+    text::put_line(out, 0, b"NONE", &[0u32; 0])
 }
 
 // A row of a pin list as a line, its word and its numbers, at byte `at`; answers the place behind it.
 pub fn put_row(out: &mut [u8], at: usize, word: &[u8], row: &[u32]) -> usize
-    requires { (length row.now ≤ row_tray)
-        × (at + (length word.now + (21 * length row.now + 1)) ≤ length out.old) }
+    requires { at + (length word.now + (21 * length row.now + 1)) ≤ length out.old }
     ensures put { Put out.old at (line_of word.now row.now) out.new result }
     ensures upper_bound { result ≤ at + (length word.now + (21 * length row.now + 1)) }
 {
-    let mut numbers = [0u64; ROW_TRAY];
-    let count = row.len();
-    widen(row, &mut numbers);
-    text::put_line(out, at, word, &numbers[..count])
+    text::put_line(out, at, word, row)
 }
 
 // The figures of a listing.
-#[derive(Clone, Copy)]
+// Plain numbers: the report knows neither the router nor its answer.
+#[derive(Clone, Copy, Debug, PartialEq, Eq)]
 pub struct Figures {
     pub width: u32,
     pub tracks: u32,
@@ -106,8 +91,7 @@ fn put_board(out: &mut [u8], f: Figures) -> usize
     ensures put { Put out.old 0 (board_line f.width f.tracks f.blank) out.new result }
     ensures upper_bound { result ≤ 100 }
 {
-    let numbers = [f.width as u64, f.tracks as u64, f.blank as u64];
-    text::put_line(out, 0, b"BOARD", &numbers)
+    text::put_line(out, 0, b"BOARD", &[f.width, f.tracks, f.blank])
 }
 
 // The second line of a listing, at byte `at`; answers the place behind it.
@@ -116,8 +100,7 @@ fn put_bounds(out: &mut [u8], at: usize, f: Figures) -> usize
     ensures put { Put out.old at (bound_line f.density f.chain) out.new result }
     ensures upper_bound { result ≤ at + 100 }
 {
-    let numbers = [f.density as u64, f.chain as u64];
-    text::put_line(out, at, b"BOUND", &numbers)
+    text::put_line(out, at, b"BOUND", &[f.density, f.chain])
 }
 
 // The line of one net, at byte `at`; answers the place behind it.
@@ -126,24 +109,23 @@ fn put_net(out: &mut [u8], at: usize, r: NetRecord) -> usize
     ensures put { Put out.old at (net_line r) out.new result }
     ensures upper_bound { result ≤ at + 100 }
 {
-    let numbers = [
-        r.number.0 as u64,
-        r.first.0 as u64,
-        r.last.0 as u64,
-        r.track.0 as u64,
-    ];
-    text::put_line(out, at, b"NET", &numbers)
+    text::put_line(
+        out,
+        at,
+        b"NET",
+        &[r.number.0, r.first.0, r.last.0, r.track.0],
+    )
 }
 
-// The lines of the first `count` of the nets, from byte `at` on; answers the place behind them.
-fn put_nets(out: &mut [u8], at: usize, records: [NetRecord; RECORD_TRAY], count: usize) -> usize
-    requires { (count ≤ record_tray) × (at + 100 * count ≤ length out.old) }
-    ensures put { Put out.old at (each net_line (take count records)) out.new result }
-    ensures upper_bound { result ≤ at + 100 * count }
+// The lines of nets, from byte `at` on; answers the place behind them.
+fn put_nets(out: &mut [u8], at: usize, records: &[NetRecord]) -> usize
+    requires { at + 100 * length records.now ≤ length out.old }
+    ensures put { Put out.old at (each net_line records.now) out.new result }
+    ensures upper_bound { result ≤ at + 100 * length records.now }
 {
     let mut next = at;
-    for i in 0..count {
-        next = put_net(out, next, records[i]);
+    for &record in records {
+        next = put_net(out, next, record);
     }
     next
 }
@@ -154,23 +136,17 @@ fn put_end(out: &mut [u8], at: usize, pieces: u32) -> usize
     ensures put { Put out.old at (end_line pieces) out.new result }
     ensures upper_bound { result ≤ at + 100 }
 {
-    let numbers = [pieces as u64];
-    text::put_line(out, at, b"END", &numbers)
+    text::put_line(out, at, b"END", &[pieces])
 }
 
 // The listing of a board, at the front of `out`; answers its length.
-pub fn put_listing(
-    out: &mut [u8],
-    f: Figures,
-    records: [NetRecord; RECORD_TRAY],
-    count: usize,
-) -> usize
-    requires { (count ≤ record_tray) × (65536 ≤ length out.old) }
-    ensures put { Put out.old 0 (listing_text f (take count records)) out.new result }
+pub fn put_listing(out: &mut [u8], f: Figures, records: &[NetRecord]) -> usize
+    requires { (length records.now ≤ record_tray) × (65536 ≤ length out.old) }
+    ensures put { Put out.old 0 (listing_text f records.now) out.new result }
     ensures upper_bound { result ≤ 65536 }
 {
     let board = put_board(out, f);
     let bounds = put_bounds(out, board, f);
-    let nets = put_nets(out, bounds, records, count);
+    let nets = put_nets(out, bounds, records);
     put_end(out, nets, f.pieces)
 }

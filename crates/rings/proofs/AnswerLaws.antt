@@ -35,7 +35,7 @@ unfolding pairs_answer
 pairs-shown zero = refl
 pairs-shown (suc k) = refl
 
-pairs-some : (k : ℕ) → (k ≡ 0 → ⊥) → pairs_answer k ≡ Some k
+pub pairs-some : (k : ℕ) → (k ≡ 0 → ⊥) → pairs_answer k ≡ Some k
 unfolding pairs_answer
 pairs-some zero h = absurd (h refl)
 pairs-some (suc k) h = refl
@@ -131,27 +131,16 @@ module _ (ch : Channel) (ring : List ℕ) where
       unfolding fewest_after filled_unless
       after_filled = rw (rows-alone ∙ accepted, filled_unless)
 
-    -- accepted rows: `fewest_of_checked` has answered and filled
-    module _ (e : Ok tt ≡ rows_answer ch) {k : ℕ} {ring' : List ℕ} (counted : k ≡ fewest ch)
-        (filled : ring' ≡ overlay (ring_numbers (fewest_ring ch)) ring) where
-      by-pairs : Held ch ring (Ok (pairs_answer k)) ring'
-      unfolding rows_answer
-      by-pairs =
-          let accepted = (ok→none tt (rows_refusal ch) (sym e)).0 in
-          record {
-            answer =
-                ap (λ (k : ℕ). Ok (pairs_answer k)) counted ∙ sym (pairs-answered (length ring) ch room ((accepted-exactly ch).0 accepted));
-            held = filled ∙ sym (after_filled accepted);
-          }
-
-      -- no pairs
-      pub none-held : k ≡ 0 → Held ch ring (Ok None) ring'
-      unfolding pairs_answer
-      none-held z = rw z at by-pairs
-
-      -- pairs
-      pub pairs-held : (k ≡ 0 → ⊥) → Held ch ring (Ok (Some k)) ring'
-      pairs-held h = rw (pairs-some k h) at by-pairs
+    -- accepted rows: `fewest_of` has answered and filled
+    pub found-held : Ok tt ≡ rows_answer ch → {pairs : Option ℕ} {ring' : List ℕ} → pairs ≡ pairs_answer (fewest ch)
+        → ring' ≡ overlay (ring_numbers (fewest_ring ch)) ring → Held ch ring (Ok pairs) ring'
+    unfolding rows_answer
+    found-held e counted filled =
+        let accepted = (ok→none tt (rows_refusal ch) (sym e)).0 in
+        record {
+          answer = ap Ok counted ∙ sym (pairs-answered (length ring) ch room ((accepted-exactly ch).0 accepted));
+          held = filled ∙ sym (after_filled accepted);
+        }
 
     -- of a channel that escapes refusals 3 to 5
     module _ (esc : Escapes ch) {r : Result (Option ℕ) Refusal} {ring' : List ℕ} (h : Held ch ring r ring') where

@@ -1,12 +1,13 @@
 -- The loop over the net numbers that finds where the ring begins: a number takes the place of the one found so far if
 -- fewer steps lead back to it, or none led back before.
-use Rattle.std.specs.Prelude.{ℕ, suc, ◌+◌, ◌-◌, ◌≤◌, ◌<◌, ◌≡◌, List, ◌⊎◌, Bool, true, false, ◌&&◌, ◌||◌, not, T, ltb, eqb}
+use Rattle.std.specs.Prelude.{ℕ, suc, ◌+◌, ◌-◌, ◌≤◌, ◌<◌, ◌≡◌, List, ◌⊎◌, Bool, true, false, ◌&&◌, ◌||◌, not, T, ltb, eqb, Option, Some, None}
 use Rattle.std.proofs.Math.Decide.{dec_lt}
-use Rattle.std.proofs.Common.{arith, subst, inl, inr, ⊎_elim, ltb→lt, lt→ltb, eqb→eq}
-use Rattle.lists.specs.Tests.{true→T, eq→T, false→fails, and_left, and_right, and_both, or_cases, or_left, or_right}
+use Rattle.std.proofs.Common.{arith, refl, subst, inl, inr, ⊎_elim, ltb→lt, lt→ltb, eqb→eq}
+use Rattle.lists.specs.Tests.{true→T, T→true, fails→false, eq→T, false→fails, and_left, and_right, and_both, or_cases, or_left, or_right}
 use Rattle.lists.specs.Tests.{not-passes, not-fails, equal?}
 use Rattle.rings.specs.Fewest.{leads}
-use Rattle.rings.specs.Search.{FewestSteps, Nearest}
+use Rattle.rings.specs.declared.fewest.Start.{Start}
+use Rattle.rings.specs.Search.{FewestSteps, Nearest, NearestOf}
 
 -- before the first number nothing is found
 pub nearest-none : {below : ℕ → List ℕ} → Nearest below 0 0 0
@@ -85,3 +86,27 @@ module _ {below : ℕ → List ℕ} {n net nets back : ℕ} (found : Nearest bel
         ⊎_elim (λ e. absurd (fails h (inl e))) (λ apart. omega (arith, apart)) (equal? nets 0),
         elim (dec_lt back nets) [ yes l ↦ absurd (fails h (inr l)) | no l ↦ omega arith ],
       )
+
+-- the same of the answer, which is none where nothing is found yet
+module _ {below : ℕ → List ℕ} (n : ℕ) {back : ℕ} (f : FewestSteps below (n + 1) (n + 1) back) where
+  pub none-back : (o : Option Start) → NearestOf below n o → back ≡ 0 → NearestOf below (n + 1) o
+  none-back None found z = nearest-left found f (fails→false _ (λ t. let h = (fewer→ back 0 t).0 in omega arith))
+  none-back (Some s) found z =
+      (found.0, nearest-left found.1 f (fails→false _ (λ t. let h = (fewer→ back s.nets t).0 in omega arith)))
+
+  pub more-back : (s : Start) → NearestOf below n (Some s) → s.nets ≤ back → NearestOf below (n + 1) (Some s)
+  more-back s found l = (
+    found.0,
+    nearest-left found.1 f (fails→false _ (λ t.
+        ⊎_elim (λ z. let k = found.0 in omega arith) (λ k. omega arith) (fewer→ back s.nets t).1)),
+  )
+
+  module _ (some : 0 < back) where
+    pub first-back : NearestOf below n None → NearestOf below (n + 1) (Some (record { net = n + 1; nets = back }))
+    first-back found =
+        (omega (arith, some), nearest-taken found f (T→true _ (→fewer back 0 (omega (arith, some)) (inl refl))))
+
+    pub fewer-back : (s : Start) → NearestOf below n (Some s) → back < s.nets
+        → NearestOf below (n + 1) (Some (record { net = n + 1; nets = back }))
+    fewer-back s found l =
+        (omega (arith, some), nearest-taken found.1 f (T→true _ (→fewer back s.nets (omega (arith, some)) (inr l))))

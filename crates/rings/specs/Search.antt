@@ -1,6 +1,6 @@
 -- What the code of the search keeps: for each net number the fewest steps down to one net, and from these the columns
 -- that lead there.
-use Rattle.std.specs.Prelude.{ℕ, suc, ◌+◌, ◌*◌, ◌≤◌, ◌<◌, ◌≡◌, Bool, cond, ◌&&◌, length, get_or, set, replicate, T, ltb, eqb}
+use Rattle.std.specs.Prelude.{ℕ, suc, ◌+◌, ◌*◌, ◌≤◌, ◌<◌, ◌≡◌, Bool, cond, ◌&&◌, length, get_or, set, replicate, T, ltb, eqb, Option, MatchOption}
 use mathlib.Core.List.{List, [], ◌∷◌, map, Memᴰ}
 use Rattle.std.proofs.lemmas.List.Edits.{sets}
 use Rattle.lists.specs.Lists.{up_to, at}
@@ -11,6 +11,7 @@ use Rattle.channel.specs.Channel.{Channel, highest_net}
 use Rattle.channel.specs.Constraints.{below}
 use Rattle.channel.specs.Parked.{NetsOnly}
 use Rattle.leftedge.specs.Ring.{lowest_over}
+use Rattle.rings.specs.declared.fewest.Start.{Start}
 use Rattle.rings.specs.Fewest.{leads}
 
 -- the numbers that nets can have
@@ -62,6 +63,10 @@ pub record FewestSteps (below : ℕ → List ℕ) (a z d : ℕ) : Type 0 where
   pub lead : 0 < d → T (leads below d a z)
   pub fewest : (k : ℕ) → T (leads below (suc k) a z) → (0 < d) × (d ≤ suc k)
 
+-- What `way_back` answers: these steps from net n back to itself, or none
+abbrev pub StepsBack : (ℕ → List ℕ) → ℕ → Option ℕ → Type 0
+StepsBack below n back = MatchOption back (FewestSteps below n n 0) (λ d. (0 < d) × FewestSteps below n n d)
+
 -- What `search` finds: these steps from each number
 pub record Searched (below : ℕ → List ℕ) (to : ℕ) (far : List ℕ) : Type 0 where
   pub long : length far ≡ 512
@@ -78,13 +83,17 @@ pub record CanShow (ch : Channel) (head next : List ℕ) (net nets : ℕ) (ring 
   pub few : nets ≤ 511
   pub room : 2 * nets ≤ length ring
 
--- What `nearest` answers: of the numbers up to `highest` the lowest from which the fewest steps lead back, and these
--- steps, 0 if none lead back
+-- of the numbers up to `highest` the lowest from which the fewest steps lead back, and these steps, 0 if none lead back
 pub record Nearest (below : ℕ → List ℕ) (highest net nets : ℕ) : Type 0 where
   pub inside : 0 < nets → (0 < net) × (net ≤ highest)
   pub lead : 0 < nets → T (leads below nets net net)
   pub fewest : (k n : ℕ) → 0 < n → n ≤ highest → T (leads below (suc k) n n) → (0 < nets) × (nets ≤ suc k)
   pub lowest : (n : ℕ) → 0 < n → n < net → T (leads below nets n n) → nets ≡ 0
+
+-- What `nearest` answers: that number and these steps, or none
+abbrev pub NearestOf : (ℕ → List ℕ) → ℕ → Option Start → Type 0
+NearestOf below highest found =
+    MatchOption found (Nearest below highest 0 0) (λ s. (0 < s.nets) × Nearest below highest s.net s.nets)
 
 -- net b, directly below net a, is one step nearer to `home` than a; the steps from each are in `far`
 unfoldable pub nearer : List ℕ → ℕ → ℕ → ℕ → Bool

@@ -4,36 +4,41 @@ ghost use Rattle.std.specs.Prelude.{◌≡◌, ℕ, ◌≤◌, ◌<◌, length};
 ghost use mathlib.Core.List.{List, Memᴰ};
 ghost use Rattle.lists.specs.Lists.{overlay};
 ghost use Rattle.refusal.specs.Trays.{ring_tray};
-ghost use Rattle.channel.specs.Channel.{rows, highest_net};
-ghost use Rattle.channel.specs.Answers.{Escapes};
-ghost use Rattle.channel.specs.Parked.{NetsOnly};
+ghost use Rattle.channel.specs.Channel.{highest_net};
 ghost use Rattle.channel.specs.Spans.{each512};
 ghost use Rattle.items.specs.Steps.{Stepped};
 ghost use Rattle.leftedge.specs.Walk.{ring_numbers};
+ghost use Rattle.rings.specs.Answers.{pairs_answer};
 ghost use Rattle.rings.specs.Fewest.{fewest, homeward, fewest_ring};
-ghost use Rattle.rings.specs.Search.{numbers, StepsKnown, FewestSteps, Nearest, nearer, home_column, CanShow};
+ghost use Rattle.rings.specs.Search.{numbers, StepsKnown, StepsBack, NearestOf, nearer, home_column, CanShow};
 
 use crate::search::search;
+use channel::{Nets, Rows};
 use grid::{COLUMN_SLOTS, NET_SLOTS, Net, WIDEST};
 
-// The fewest steps down from net n back to itself, 0 if none lead back. `queue` is room for the nets found.
+// The fewest steps down from net n back to itself, if any lead back. `queue` is room for the nets found.
 fn way_back(
     upper: &[u32],
     head: &[u16; NET_SLOTS],
     next: &[u16; COLUMN_SLOTS],
     n: usize,
     queue: &mut [u16; NET_SLOTS],
-) -> u16
+) -> Option<u32>
     requires { StepsKnown upper.now head.now next.now × Memᴰ n numbers }
     ensures { (below : ℕ → List ℕ) → Stepped below numbers upper.now head.now next.now
-        → FewestSteps below n n result }
+        → StepsBack below n result }
 {
     let mut far = [0u16; NET_SLOTS];
     search(upper, head, next, n, &mut far, queue);
-    far[n]
+    let steps = far[n];
+    if steps == 0 {
+        None
+    } else {
+        Some(u32::from(steps))
+    }
 }
 
-// Where the ring begins, and how many nets it has; 0 and 0 if there is none.
+// Where the ring begins, and how many nets it has.
 #[derive(Clone, Copy)]
 struct Start {
     net: u32,
@@ -46,32 +51,23 @@ fn nearest(
     head: &[u16; NET_SLOTS],
     next: &[u16; COLUMN_SLOTS],
     highest: u32,
-) -> Start
+) -> Option<Start>
     requires { StepsKnown upper.now head.now next.now × (highest ≤ highest_net) }
     ensures { (below : ℕ → List ℕ) → Stepped below numbers upper.now head.now next.now
-        → Nearest below highest result.net result.nets }
+        → NearestOf below highest result }
 {
     // cleared once for all searches
     let mut queue = [0u16; NET_SLOTS];
-    let mut net: u32 = 0;
-    let mut nets: u32 = 0;
-    let mut n: u32 = 0;
-    while n < highest {
-        n += 1;
-        let back = way_back(upper, head, next, n as usize, &mut queue) as u32;
-        if (back != 0) & ((nets == 0) | (back < nets)) {
-            net = n;
-            nets = back;
+    let mut found: Option<Start> = None;
+    for n in 1..highest + 1 {
+        if let Some(nets) = way_back(upper, head, next, n as usize, &mut queue) {
+            match found {
+                Some(start) if start.nets <= nets => {}
+                _ => found = Some(Start { net: n, nets }),
+            }
         }
     }
-    Start { net, nets }
-}
-
-// A number of steps, as wide as a net number.
-fn wide(steps: u16) -> u32
-    ensures { (result ≡ steps) × (result < 65536) }
-{
-    steps as u32
+    found
 }
 
 // Net b, directly below net a, is one step nearer to net `home`.
@@ -79,23 +75,23 @@ fn nearer(far: &[u16; NET_SLOTS], home: u32, a: u32, b: u32) -> bool
     requires { (a ≤ highest_net) × (b ≤ highest_net) }
     ensures { result ≡ nearer far.now home a b }
 {
-    let steps = wide(far[a as usize]);
+    let steps = u32::from(far[a as usize]);
     if b == home {
         return steps == 1;
     }
-    let left = wide(far[b as usize]);
+    let left = u32::from(far[b as usize]);
     (left != 0) & (steps == left + 1)
 }
 
 // For each net number its lowest column over a net that is one step nearer to net `home`, 0 if there is none.
-fn home_columns(top: &[u32], bot: &[u32], far: &[u16; NET_SLOTS], home: u32) -> [u32; NET_SLOTS]
-    requires { NetsOnly (rows top.now bot.now) }
-    ensures { result ≡ each512 (home_column (rows top.now bot.now) far.now home) }
+// 0 is no column: `leftedge::store_pairs`, named in docs/PROMISES.md, is lent this table of numbers.
+fn home_columns(nets: &Nets, far: &[u16; NET_SLOTS], home: u32) -> [u32; NET_SLOTS]
+    ensures { result ≡ each512 (home_column nets.now far.now home) }
 {
+    let (top, bot) = (nets.top, nets.bot);
     let mut columns = [0u32; NET_SLOTS];
-    let mut i = top.len();
-    while 0 < i {
-        i -= 1;
+    // no loop shared with `lowest_drops` of leftedge: a closure for the test would cost a law for five lines
+    for i in (0..top.len()).rev() {
         let a = top[i];
         let b = bot[i];
         if (a != 0) & (b != 0) & (a != b) & nearer(far, home, a, b) {
@@ -107,56 +103,49 @@ fn home_columns(top: &[u32], bot: &[u32], far: &[u16; NET_SLOTS], home: u32) -> 
 
 // Puts the pairs of the ring of so many nets that begins at net `home` at the front of `ring`.
 fn show_from(
-    top: &[u32],
-    bot: &[u32],
+    nets: &Nets,
     head: &[u16; NET_SLOTS],
     next: &[u16; COLUMN_SLOTS],
     home: u32,
-    nets: u32,
+    count: u32,
     ring: &mut [u32],
 )
-    requires { CanShow (rows top.now bot.now) head.now next.now home nets ring.old }
-    ensures { ring.new
-        ≡ overlay (ring_numbers (homeward (rows top.now bot.now) nets home home))
-        ring.old }
+    requires { CanShow nets.now head.now next.now home count ring.old }
+    ensures { ring.new ≡ overlay (ring_numbers (homeward nets.now count home home)) ring.old }
 {
+    let (top, bot) = (nets.top, nets.bot);
     let mut far = [0u16; NET_SLOTS];
     let mut queue = [0u16; NET_SLOTS];
     search(top, head, next, home as usize, &mut far, &mut queue);
-    let columns = home_columns(top, bot, &far, home);
-    leftedge::store_pairs(bot, &columns, Net(home), nets, ring);
+    let columns = home_columns(nets, &far, home);
+    leftedge::store_pairs(bot, &columns, Net(home), count, ring);
 }
 
-// The ring of a channel whose rows show nets only; answers the number of pairs, 0 if there is none.
-fn fewest_of_nets(top: &[u32], bot: &[u32], ring: &mut [u32]) -> u32
-    requires { NetsOnly (rows top.now bot.now) × (ring_tray ≤ length ring.old) }
-    ensures { (result ≡ fewest (rows top.now bot.now))
-        × (ring.new
-        ≡ overlay (ring_numbers (fewest_ring (rows top.now bot.now))) ring.old) }
+// The ring of a channel whose rows show nets only; answers the number of pairs.
+fn fewest_of_nets(nets: &Nets, ring: &mut [u32]) -> Option<u32>
+    requires { ring_tray ≤ length ring.old }
+    ensures { (result ≡ pairs_answer (fewest nets.now))
+        × (ring.new ≡ overlay (ring_numbers (fewest_ring nets.now)) ring.old) }
 {
+    let (top, bot) = (nets.top, nets.bot);
     let mut head = [0u16; NET_SLOTS];
     let mut next = [0u16; COLUMN_SLOTS];
     let mut under = [0u16; NET_SLOTS];
     items::link_steps(top, bot, &mut head, &mut next, &mut under);
     let highest = channel::highest_number(top, 0);
-    let start = nearest(top, &head, &next, highest);
-    let nets = start.nets;
-    if nets != 0 {
-        show_from(top, bot, &head, &next, start.net, nets, ring);
-    }
-    nets
+    let start = nearest(top, &head, &next, highest)?;
+    show_from(nets, &head, &next, start.net, start.nets, ring);
+    Some(start.nets)
 }
 
-// The same of a channel that escapes refusals 3 to 5: a parked pin is on no ring.
-pub fn fewest_of_checked(top: &[u32], bot: &[u32], ring: &mut [u32]) -> u32
-    requires { Escapes (rows top.now bot.now) × (ring_tray ≤ length ring.old) }
-    ensures { (result ≡ fewest (rows top.now bot.now))
-        × (ring.new
-        ≡ overlay (ring_numbers (fewest_ring (rows top.now bot.now))) ring.old) }
+// The same of a channel: a parked pin is on no ring.
+// The ring is a slice with its room in a clause: C lends any length, and `FewestDone` speaks of the whole.
+pub fn fewest_of(rows: &Rows, ring: &mut [u32]) -> Option<u32>
+    requires { ring_tray ≤ length ring.old }
+    ensures { (result ≡ pairs_answer (fewest rows.now))
+        × (ring.new ≡ overlay (ring_numbers (fewest_ring rows.now)) ring.old) }
 {
-    let w = top.len();
     let mut upper = [0u32; WIDEST];
     let mut lower = [0u32; WIDEST];
-    channel::remove_parked(top, bot, &mut upper, &mut lower);
-    fewest_of_nets(&upper[..w], &lower[..w], ring)
+    fewest_of_nets(&rows.without_parked(&mut upper, &mut lower), ring)
 }

@@ -7,6 +7,7 @@ mod search;
 ghost use Rattle.channel.specs.Channel.{rows};
 ghost use Rattle.rings.specs.Code.{FewestDone};
 
+use channel::Rows;
 use refusal::{RING_TRAY, Refusal};
 
 // The ring with the fewest nets of rows of any lengths and numbers, its pairs at the front of `ring`, net and column, and
@@ -18,7 +19,6 @@ pub fn fewest_ring(top: &[u32], bot: &[u32], ring: &mut [u32]) -> Result<Option<
     if ring.len() < RING_TRAY {
         return Err(Refusal::ShortTray(RING_TRAY));
     }
-    channel::check(top, bot)?;
-    let pairs = fewest::fewest_of_checked(top, bot, ring);
-    Ok(if pairs == 0 { None } else { Some(pairs) })
+    let rows = Rows::accept(top, bot)?;
+    Ok(fewest::fewest_of(&rows, ring))
 }

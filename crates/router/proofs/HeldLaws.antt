@@ -40,7 +40,7 @@ use Rattle.router.proofs.ContractLaws.{only-tangled, stuck-answer, filled-answer
 use Rattle.router.proofs.ContractLaws.{looks-begun}
 use Rattle.router.specs.Tables.{Listed}
 use Rattle.router.specs.Code.{records_unless}
-use Rattle.router.specs.CodeLaws.{Held, HeldBy, RefusedWith}
+use Rattle.router.specs.Held.{Held, HeldBy, RefusedWith}
 
 -- both buffers are long enough
 pub room : (ring board : ℕ) → ring_tray ≤ ring → board_tray ≤ board → short_tray (route_trays ring board) ≡ none

@@ -38,7 +38,7 @@ use Rattle.router.specs.Contract.{RoutePromise, TurnedOver, ParkedBare, LooksPro
 use Rattle.router.proofs.ContractLaws.{route-promise, route-turned, route-parked, route-looks}
 use Rattle.router.specs.Tables.{nobody, no_records}
 use Rattle.router.specs.Code.{records_unless, RouteDone, RowsDone}
-use Rattle.router.specs.CodeLaws.{HeldBy, Held}
+use Rattle.router.specs.Held.{HeldBy, Held}
 use Rattle.router.proofs.HeldLaws.{room}
 
 module _ (ch : Channel) (table ring board : ℕ) where

@@ -36,7 +36,7 @@ use Rattle.router.specs.declared.Routing.{Routing}
 use Rattle.router.specs.Route.{route_trays}
 use Rattle.router.specs.Tables.{records_by, Listed}
 use Rattle.router.proofs.TableLaws.{made-records}
-use Rattle.router.specs.CodeLaws.{Held, RefusedWith}
+use Rattle.router.specs.Held.{Held, RefusedWith}
 use Rattle.router.proofs.HeldLaws.{refused-held, rows-refused, stuck-held, filled-held}
 
 -- a fill that placed every net, on t tracks: the places are those of the definitions, and the array has their tracks

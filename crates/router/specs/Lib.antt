@@ -1,7 +1,7 @@
 pub mod Route
 pub mod Contract
 pub mod Code
-pub mod CodeLaws
+pub mod Held
 pub mod Tables
 pub mod ToldLaws
 pub mod Progress

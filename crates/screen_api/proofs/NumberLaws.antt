@@ -1,6 +1,6 @@
 -- What C reads in an entry's number is what was answered, and values that fit are their own number. Refusals have
 -- numbers of at most 23, so that one with its place fits 64 bits.
-use Rattle.std.specs.Prelude.{ℕ, ◌+◌, ◌*◌, ◌/◌, ◌%◌, ◌≤◌, ◌<◌, ◌≡◌, refl, List, [], ◌∷◌, ◌↔◌}
+use Rattle.std.specs.Prelude.{ℕ, ◌+◌, ◌*◌, ◌/◌, ◌%◌, ◌≤◌, ◌<◌, ◌≡◌, refl, List, [], ◌∷◌, ◌↔◌, Result, Ok, Err, MatchResult}
 use Rattle.std.proofs.Common.{arith, sym, ◌∙◌}
 use Rattle.std.proofs.Math.Option.{Option, none}
 use Rattle.refusal.specs.declared.Refusal.{Refusal}
@@ -62,6 +62,12 @@ eighteen (PanelFull p) e = refl
 eighteen (BadSpan p) e = absurd (omega arith)
 eighteen (AlreadyHere p) e = absurd (omega arith)
 eighteen (NotHere p) e = absurd (omega arith)
+
+-- what holds after a value and after a refusal holds after an answer
+pub each-answer : {A G : Type 0} {P : A → Type 0} {Q : Refusal → Type 0} (a : Result A Refusal) → MatchResult a P Q
+    → ((v : A) → a ≡ Ok v → P v → G) → ((q : Refusal) → a ≡ Err q → Q q → G) → G
+each-answer (Ok v) h f g = f v refl h
+each-answer (Err q) h f g = g q refl h
 
 -- values that fit
 pub value-number : {v : ℕ} → v < 4294967296 → v ≡ entry_number (told_values (v ∷ []))

@@ -6,8 +6,6 @@
 ghost use Rattle.std.specs.Prelude.{◌≡◌, ◌≤◌};
 ghost use Rattle.refusal.specs.Refusals.{told_at, told_refusal};
 ghost use Rattle.channel.specs.Channel.{rows};
-ghost use Rattle.draft.specs.Answers.{draft_told, count_told};
-ghost use Rattle.draft.specs.Code.{Few};
 ghost use Rattle.draft.specs.History.{arrive, leave, count, whole};
 ghost use Rattle.judge.specs.Answers.{fault_number, fault_place};
 ghost use Rattle.screen_api.specs.Numbers.{entry_number};
@@ -21,19 +19,15 @@ use judge::{Fault, JudgeAnswer};
 use refusal::Refusal;
 use router::Drawn;
 
-// A number of the table and its place, in one number.
+// A number of the table and its place, in one number: refusals and faults both have them, and C gets both in one.
 fn numbered_at(number: u32, place: usize) -> u64
     requires { number ≤ 23 }
     ensures { result ≡ entry_number (told_at number place) }
 {
-    let shown = if 4294967295 < place {
-        4294967295
-    } else {
-        place as u64
-    };
-    number as u64 * 4294967296 + shown
+    number as u64 * 4294967296 + place.min(u32::MAX as usize) as u64
 }
 
+// The number of a refusal and its place.
 fn refused(refusal: Refusal) -> u64
     ensures { result ≡ entry_number (told_refusal refusal) }
 {
@@ -45,10 +39,7 @@ fn refused(refusal: Refusal) -> u64
 pub extern "C" fn cabjirt_read(text: &[u8], top: &mut [u32], bot: &mut [u32]) -> u64
     ensures { ReadEntry text.now top.old bot.old result top.new bot.new }
 {
-    match pinlist::read(text, top, bot) {
-        Ok(w) => w as u64,
-        Err(refusal) => refused(refusal),
-    }
+    pinlist::read(text, top, bot).map_or_else(refused, |w| w as u64)
 }
 
 // The bounds of rows: density times 65,536 plus chain, or refusals 3 to 5.
@@ -56,10 +47,10 @@ pub extern "C" fn cabjirt_read(text: &[u8], top: &mut [u32], bot: &mut [u32]) ->
 pub extern "C" fn cabjirt_bounds(top: &[u32], bot: &[u32]) -> u64
     ensures { BoundsEntry (rows top.now bot.now) result }
 {
-    match channel::bounds(top, bot) {
-        Ok(LowerBounds { density, chain }) => density as u64 * 65536 + chain as u64,
-        Err(refusal) => refused(refusal),
-    }
+    channel::bounds(top, bot).map_or_else(
+        refused,
+        |LowerBounds { density, chain }| density as u64 * 65536 + chain as u64,
+    )
 }
 
 // Routes rows: pieces times 65,536 plus tracks, with the board file at the front of the board; or refusals 1, 3 to 5
@@ -69,12 +60,10 @@ pub extern "C" fn cabjirt_route(top: &[u32], bot: &[u32], ring: &mut [u32], boar
     ensures { RouteEntry (rows top.now bot.now) ring.old board.old result
         ring.new board.new }
 {
-    let routing = router::route_rows(top, bot, ring, board);
-    let answer = routing.answer;
-    match answer {
-        Ok(Drawn { tracks, pieces }) => pieces as u64 * 65536 + tracks as u64,
-        Err(refusal) => refused(refusal),
-    }
+    router::route_rows(top, bot, ring, board).answer.map_or_else(
+        refused,
+        |Drawn { tracks, pieces }| pieces as u64 * 65536 + tracks as u64,
+    )
 }
 
 // The ring with the fewest nets of rows: the number of its pairs, which fill the front of the ring, or 0 if there is
@@ -83,10 +72,7 @@ pub extern "C" fn cabjirt_route(top: &[u32], bot: &[u32], ring: &mut [u32], boar
 pub extern "C" fn cabjirt_fewest_ring(top: &[u32], bot: &[u32], ring: &mut [u32]) -> u64
     ensures { FewestEntry (rows top.now bot.now) ring.old result ring.new }
 {
-    match rings::fewest_ring(top, bot, ring) {
-        Ok(pairs) => pairs.unwrap_or(0) as u64,
-        Err(refusal) => refused(refusal),
-    }
+    rings::fewest_ring(top, bot, ring).map_or_else(refused, |pairs| pairs.unwrap_or(0) as u64)
 }
 
 // Joins two lists of rows into two rows of at least 512 numbers each: the joined width, or refusals 1, 3 to 5 of list
@@ -103,10 +89,7 @@ pub extern "C" fn cabjirt_join(
     ensures { JoinEntry (rows top1.now bot1.now) (rows top2.now bot2.now)
         top.old bot.old result top.new bot.new }
 {
-    match panel::join(top1, bot1, top2, bot2, top, bot) {
-        Ok(w) => w as u64,
-        Err(refusal) => refused(refusal),
-    }
+    panel::join(top1, bot1, top2, bot2, top, bot).map_or_else(refused, |w| w as u64)
 }
 
 // How many looks the fill of rows takes, tangled or not: each net unplaced as a track's scan begins, the last empty
@@ -115,10 +98,7 @@ pub extern "C" fn cabjirt_join(
 pub extern "C" fn cabjirt_looks(top: &[u32], bot: &[u32]) -> u64
     ensures { LooksEntry (rows top.now bot.now) result }
 {
-    match router::looks(top, bot) {
-        Ok(n) => n as u64,
-        Err(refusal) => refused(refusal),
-    }
+    router::looks(top, bot).map_or_else(refused, |n| n as u64)
 }
 
 // The most looks that a fill of the nets with spans in rows can take, or refusals 3 to 5.
@@ -126,10 +106,7 @@ pub extern "C" fn cabjirt_looks(top: &[u32], bot: &[u32]) -> u64
 pub extern "C" fn cabjirt_ceiling(top: &[u32], bot: &[u32]) -> u64
     ensures { CeilingEntry (rows top.now bot.now) result }
 {
-    match router::ceiling(top, bot) {
-        Ok(n) => n as u64,
-        Err(refusal) => refused(refusal),
-    }
+    router::ceiling(top, bot).map_or_else(refused, |n| n as u64)
 }
 
 // Judges a board file against rows: its tracks if it is good; or refusals 1, 3 to 5, 8 to 10, or faults 11 to 13.
@@ -145,6 +122,8 @@ pub extern "C" fn cabjirt_judge(top: &[u32], bot: &[u32], board: &[u8], scratch:
     }
 }
 
+// The number of a fault and its place. No trait of what has both: two functions of one line would become a trait and
+// two impls.
 fn faulty(fault: Fault) -> u64
     ensures { result ≡ entry_number (told_at (fault_number fault) (fault_place fault)) }
 {
@@ -156,10 +135,7 @@ fn faulty(fault: Fault) -> u64
 pub extern "C" fn cabjirt_blank(tracks: u32) -> u64
     ensures { BlankEntry tracks result }
 {
-    match blanks::blank(tracks) {
-        Ok(held) => held as u64,
-        Err(refusal) => refused(refusal),
-    }
+    blanks::blank(tracks).map_or_else(refused, |held| held as u64)
 }
 
 // The smallest entry of a customer's own table that holds a number of tracks; or refusals 14 to 16.
@@ -167,19 +143,7 @@ pub extern "C" fn cabjirt_blank(tracks: u32) -> u64
 pub extern "C" fn cabjirt_own_blank(table: &[u32], tracks: u32) -> u64
     ensures { OwnBlankEntry table.now tracks result }
 {
-    match blanks::own_blank(table, tracks) {
-        Ok(held) => held as u64,
-        Err(refusal) => refused(refusal),
-    }
-}
-
-fn changed(answer: Result<(), Refusal>) -> u64
-    ensures { result ≡ entry_number (draft_told answer) }
-{
-    match answer {
-        Ok(()) => 0,
-        Err(refusal) => refused(refusal),
-    }
+    blanks::own_blank(table, tracks).map_or_else(refused, |held| held as u64)
 }
 
 // Takes all nets off a draft of at least 4,096 words: 0, or refusal 1.
@@ -187,7 +151,7 @@ fn changed(answer: Result<(), Refusal>) -> u64
 pub extern "C" fn cabjirt_draft_clear(words: &mut [u64]) -> u64
     ensures { ClearEntry words.old result words.new }
 {
-    changed(draft::clear(words))
+    draft::clear(words).map_or_else(refused, |()| 0)
 }
 
 // A net arrives on a draft: 0, or refusals 1, 21 and 22.
@@ -195,7 +159,7 @@ pub extern "C" fn cabjirt_draft_clear(words: &mut [u64]) -> u64
 pub extern "C" fn cabjirt_draft_arrive(words: &mut [u64], number: u32, first: u32, last: u32) -> u64
     ensures { ChangeEntry words.old (arrive number first last) result words.new }
 {
-    changed(draft::arrive(words, Net(number), Column(first), Column(last)))
+    draft::arrive(words, Net(number), Column(first), Column(last)).map_or_else(refused, |()| 0)
 }
 
 // A net leaves a draft: 0, or refusals 1, 21 and 23.
@@ -203,17 +167,7 @@ pub extern "C" fn cabjirt_draft_arrive(words: &mut [u64], number: u32, first: u3
 pub extern "C" fn cabjirt_draft_leave(words: &mut [u64], number: u32) -> u64
     ensures { ChangeEntry words.old (leave number) result words.new }
 {
-    changed(draft::leave(words, Net(number)))
-}
-
-fn counted(answer: Result<u32, Refusal>) -> u64
-    requires { Few answer }
-    ensures { result ≡ entry_number (count_told answer) }
-{
-    match answer {
-        Ok(k) => k as u64,
-        Err(refusal) => refused(refusal),
-    }
+    draft::leave(words, Net(number)).map_or_else(refused, |()| 0)
 }
 
 // How many nets a draft has over a column, 0 outside 1 to 512; or refusal 1.
@@ -221,7 +175,7 @@ fn counted(answer: Result<u32, Refusal>) -> u64
 pub extern "C" fn cabjirt_draft_count(words: &[u64], column: u32) -> u64
     ensures { AskEntry words.now (count column) result }
 {
-    counted(draft::count(words, Column(column)))
+    draft::count(words, Column(column)).map_or_else(refused, |count| count as u64)
 }
 
 // The greatest count of a draft's columns; or refusal 1.
@@ -229,5 +183,5 @@ pub extern "C" fn cabjirt_draft_count(words: &[u64], column: u32) -> u64
 pub extern "C" fn cabjirt_draft_greatest(words: &[u64]) -> u64
     ensures { AskEntry words.now whole result }
 {
-    counted(draft::greatest(words))
+    draft::greatest(words).map_or_else(refused, |count| count as u64)
 }

@@ -1,12 +1,38 @@
-// Words and numbers put as lines into a lent buffer.
+// Words and numbers put as lines into a lent buffer. The buffer and a place in it stay two parameters, and the place
+// behind is the answer: the contracts of `put_line` and of report's six public functions name all three (`Put`).
 #![tactic(auto)]
 
-ghost use Rattle.std.specs.Prelude.{◌+◌, ◌*◌, ◌≤◌, length};
+ghost use Rattle.std.specs.Prelude.{ℕ, ◌≡◌, ◌+◌, ◌*◌, ◌≤◌, length, map};
 ghost use Rattle.lists.specs.Lists.{each};
 ghost use Rattle.text.specs.Lines.{field, line_of, Put};
 
-#[tactic(auto, using(lists::specs::Copies::part_is_sets))]
+// A number of a line.
+pub trait Number: Copy {
+    ghost value: { Self → ℕ };
+
+    fn wide(self) -> u64
+        ensures { result ≡ value self };
+}
+
+impl Number for u32 {
+    ghost value = { λ n. n };
+
+    fn wide(self) -> u64 {
+        self as u64
+    }
+}
+
+impl Number for u64 {
+    ghost value = { λ n. n };
+
+    fn wide(self) -> u64 {
+        self
+    }
+}
+
 // Puts a text at byte `at`; answers the place behind it.
+// No `write!`: the memory is lent and no write fails, while `write!` answers an error.
+#[tactic(auto, using(lists::specs::Copies::part_is_sets))]
 fn put_text(out: &mut [u8], at: usize, text: &[u8]) -> usize
     requires { at + length text.now ≤ length out.old }
     ensures { Put out.old at text.now out.new result }
@@ -29,22 +55,22 @@ fn put_number(out: &mut [u8], at: usize, n: u64) -> usize
 }
 
 // Puts numbers, each behind its space, from byte `at` on; answers the place behind them.
-fn put_numbers(out: &mut [u8], at: usize, numbers: &[u64]) -> usize
+fn put_numbers<N: Number>(out: &mut [u8], at: usize, numbers: &[N]) -> usize
     requires { at + 21 * length numbers.now ≤ length out.old }
-    ensures put { Put out.old at (each field numbers.now) out.new result }
+    ensures put { Put out.old at (each (λ n. field (N.value n)) numbers.now) out.new result }
     ensures upper_bound { result ≤ at + 21 * length numbers.now }
 {
     let mut next = at;
     for &n in numbers {
-        next = put_number(out, next, n);
+        next = put_number(out, next, n.wide());
     }
     next
 }
 
 // Puts a word, numbers and a line feed at byte `at`; answers the place behind them.
-pub fn put_line(out: &mut [u8], at: usize, word: &[u8], numbers: &[u64]) -> usize
+pub fn put_line<N: Number>(out: &mut [u8], at: usize, word: &[u8], numbers: &[N]) -> usize
     requires { at + (length word.now + (21 * length numbers.now + 1)) ≤ length out.old }
-    ensures put { Put out.old at (line_of word.now numbers.now) out.new result }
+    ensures put { Put out.old at (line_of word.now (map N.value numbers.now)) out.new result }
     ensures upper_bound { result ≤ at + (length word.now + (21 * length numbers.now + 1)) }
 {
     let first = put_text(out, at, word);

@@ -1,10 +1,9 @@
 -- `open` meets its contract: each return is the answer that the law of its way through the tests names, in the order of
 -- the refusals.
-use native.Mathlib.Omega.{arith}
 use mathlib.Core.Path.{sym, ap, ◌∙◌}
 use mathlib.Core.Logic.{inl, inr}
 use Rattle.boardfile.specs.Open.{header_of}
-use Rattle.boardfile.specs.CodeLaws.{small, open-short, open-torn, open-header, open-piece, open-whole}
+use Rattle.boardfile.specs.CodeLaws.{open-short, open-torn, open-header, open-piece, open-whole}
 use Rattle.boardfile.proofs.open.Goals.{then-width-lt1-via-then-width-lt1, then-width-lt1-via-else-width-lt1+then-width-gt-WIDEST, then-width-lt1-via-else-width-lt1+else-width-gt-WIDEST+then-spare-eq1}
 use Rattle.boardfile.proofs.open.Goals as goal
 
@@ -23,11 +22,6 @@ returns-then-width-lt1 c =
       | then-width-lt1-via-else-width-lt1+then-width-gt-WIDEST w ↦ inr (inl w.if-width-gt-WIDEST.true)
       | then-width-lt1-via-else-width-lt1+else-width-gt-WIDEST+then-spare-eq1 w ↦ inr (inr w.if-spare-eq1.true)
     ]))
-
-pub first_bad-requires : goal.first_bad-requires
-first_bad-requires c =
-    let s = small c.args.board.now c.header_of-width.result (c.header_of-width.ensures ∙ ap header_of c.word_at.ensures) in
-    omega arith
 
 pub returns-in-Some : goal.returns-in-Some
 returns-in-Some c =

@@ -1,14 +1,14 @@
 -- Short scratch is refused first, then what opening the board for the rows refuses, and past that stands the finding.
 use Rattle.std.proofs.Common.{refl}
-use Rattle.judge.proofs.JudgeSteps.{answer-short, answer-refused, answer-found, pieces_ready, judged-well}
+use Rattle.judge.proofs.JudgeSteps.{answer-short, answer-refused, answer-found, case-ready, judged-well}
 use Rattle.judge.proofs.judge.Goals as goal
 
 pub returns-then-scratch-lt-SCRATCH_TRAY : goal.returns-then-scratch-lt-SCRATCH_TRAY
 returns-then-scratch-lt-SCRATCH_TRAY c =
     judged-well _ _ _ _ _ (answer-short _ _ _ c.if-scratch-lt-SCRATCH_TRAY.true) refl
 
-pub judge_pieces-requires : goal.judge_pieces-requires
-judge_pieces-requires c = pieces_ready _ _ _ c.if-scratch-lt-SCRATCH_TRAY.false c.in-Ok.ensures _ refl
+pub invariant_of-case : goal.invariant_of-case
+invariant_of-case c = case-ready _ _ _ c.if-scratch-lt-SCRATCH_TRAY.false c.in-Ok.ensures
 
 pub returns-in-Err : goal.returns-in-Err
 returns-in-Err c =
@@ -16,5 +16,5 @@ returns-in-Err c =
 
 pub returns-in-Ok : goal.returns-in-Ok
 returns-in-Ok c =
-    judged-well _ _ _ _ _ (answer-found _ _ _ c.if-scratch-lt-SCRATCH_TRAY.false c.in-Ok.ensures c.judge_pieces.ensures)
-    c.judge_pieces.auto.scratch
+    judged-well _ _ _ _ _ (answer-found _ _ _ c.if-scratch-lt-SCRATCH_TRAY.false c.in-Ok.ensures c.judge_case.ensures)
+    c.judge_case.auto.scratch

@@ -1,5 +1,5 @@
 -- Each return is a law of TextLaws about the line that was read last.
-use Rattle.std.proofs.Common.{refl, arith}
+use Rattle.std.proofs.Common.{arith}
 use Rattle.lists.specs.Bytes.{bytes}
 use Rattle.refusal.specs.ChainLaws.{handed-on}
 use Rattle.pinlist.proofs.RowLaws.{Whole, line-broken, line-whole, whole-within}
@@ -25,7 +25,7 @@ returns-in_err-tops c =
 
 pub read_line-requires-2 : goal.read_line-requires-2
 read_line-requires-2 c =
-    (whole-within (omega arith) (first (goal.at.read_line-requires-2 c).In_ok-tops), refl, c.requires.1)
+    whole-within (omega arith) (first (goal.at.read_line-requires-2 c).In_ok-tops)
 
 pub returns-in_err-bots : goal.returns-in_err-bots
 unfolding bytes

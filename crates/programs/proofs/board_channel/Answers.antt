@@ -8,18 +8,18 @@ use Rattle.programs.proofs.board_channel.Goals as goal
 
 pub put_unrouted-requires : goal.put_unrouted-requires
 put_unrouted-requires c =
-    let told =
-    unrouted _ c.requires.0 (omega arith) (omega (arith, c.requires.1)) c.route_rows-routing.ensures c.in-Err.is in
-    (told.few, omega arith, omega (arith, c.requires.1))
+    let done = rw (c.top.ensures, c.bot.ensures) at c.route_rows-routing.ensures in
+    let told = unrouted _ c.args.pins.now.escape (omega arith) (omega (arith, c.requires)) done c.in-Err.is in
+    (told.few, omega arith, omega (arith, c.requires))
 
 pub returns-in-Err-clause-put : goal.returns-in-Err-clause-put
 returns-in-Err-clause-put c =
-    let told =
-    unrouted _ c.requires.0 (omega arith) (omega (arith, c.requires.1)) c.route_rows-routing.ensures c.in-Err.is in
+    let done = rw (c.top.ensures, c.bot.ensures) at c.route_rows-routing.ensures in
+    let told = unrouted _ c.args.pins.now.escape (omega arith) (omega (arith, c.requires)) done c.in-Err.is in
     put_same (rw told.kept at c.put_unrouted.ensures.put) (told.output board_bytes)
 
 pub returns-in-Ok : goal.returns-in-Ok
 returns-in-Ok c =
-    let told =
-    routed _ c.requires.0 (omega arith) (omega (arith, c.requires.1)) c.route_rows-routing.ensures c.in-Ok.is in
+    let done = rw (c.top.ensures, c.bot.ensures) at c.route_rows-routing.ensures in
+    let told = routed _ c.args.pins.now.escape (omega arith) (omega (arith, c.requires)) done c.in-Ok.is in
     record { put = told.put; upper_bound = omega (arith, told.few-pieces) }

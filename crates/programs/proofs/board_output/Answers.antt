@@ -1,33 +1,12 @@
--- Of a pin list that is refused its line is written, and of one that is read the board file of its channel
--- (`rows-output`).
-use Rattle.std.proofs.Common.{◌≡◌}
-use Rattle.programs.specs.Programs.{of_filled, board_bytes, board_output}
-use Rattle.programs.specs.Code.{ReadRows}
-use Rattle.programs.specs.CodeLaws.{rows-output}
+-- Of a pin list that is not read its line is written, and of one that is read the board file of its channel.
+use Rattle.text.specs.PutLaws.{put_same}
+use Rattle.programs.specs.Programs.{board_bytes, board_output, of_filled}
 use Rattle.programs.proofs.board_output.Goals as goal
-use Rattle.programs.proofs.board_output.Goals.{In-Width}
 
-read : (c : In-Width) → ReadRows c.args.text.now c.read_pins.new.top c.read_pins.new.bot c.in-Width.w
-    × (c.read_pins.new.out ≡ c.args.out.now)
-read c = c.read_pins.ensures.read c.in-Width.is
-
-pub slice_bounds-top-end : goal.slice_bounds-top-end
-slice_bounds-top-end c = (read (goal.at.slice_bounds-top-end c).In-Width).0.top-inside
-
-pub slice_bounds-board_channel-end : goal.slice_bounds-board_channel-end
-slice_bounds-board_channel-end c = (read (goal.at.slice_bounds-board_channel-end c).In-Width).0.top-size
-
-pub slice_bounds-bot-end : goal.slice_bounds-bot-end
-slice_bounds-bot-end c = (read (goal.at.slice_bounds-bot-end c).In-Width).0.bot-inside
-
-pub slice_bounds-board_channel-end-in-Width : goal.slice_bounds-board_channel-end-in-Width
-slice_bounds-board_channel-end-in-Width c = (read (goal.at.slice_bounds-board_channel-end-in-Width c).In-Width).0.bot-size
-
-pub returns-in-Refused-clause-put : goal.returns-in-Refused-clause-put
+pub returns-in-Ok-clause-put : goal.returns-in-Ok-clause-put
 unfolding board_output
-returns-in-Refused-clause-put c = (c.read_pins.ensures.refused c.in-Refused.is).wrote (of_filled board_bytes)
+returns-in-Ok-clause-put c = put_same c.board_channel.ensures.put (c.in-Ok.ensures.read.output (of_filled board_bytes))
 
-pub returns-in-Width-clause-put : goal.returns-in-Width-clause-put
+pub returns-in-Err-clause-put : goal.returns-in-Err-clause-put
 unfolding board_output
-returns-in-Width-clause-put c =
-    rows-output (read (goal.at.returns-in-Width-clause-put c).In-Width) (of_filled board_bytes) c.board_channel.ensures.put
+returns-in-Err-clause-put c = put_same c.put_unread.ensures.put (c.in-Err.ensures.unread.wrote (of_filled board_bytes))

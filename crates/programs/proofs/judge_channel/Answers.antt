@@ -1,5 +1,4 @@
--- A board over the limit is refused (`over-limit`), and of any other the line of the judge's answer is written
--- (`in-limit`).
+-- A board over the limit, or the line of what the judge answered.
 use Rattle.std.proofs.Common.{◌∙◌, ap}
 use Rattle.text.specs.PutLaws.{put_same}
 use Rattle.programs.specs.Programs.{judge_lines}
@@ -8,9 +7,9 @@ use Rattle.programs.proofs.judge_channel.Goals as goal
 
 pub returns-then-board-gt-INPUT_LIMIT-clause-put : goal.returns-then-board-gt-INPUT_LIMIT-clause-put
 returns-then-board-gt-INPUT_LIMIT-clause-put c =
-    put_same c.put_over.ensures.put (over-limit _ _ c.if-board-gt-INPUT_LIMIT.true)
+    put_same c.put_unread.ensures.put (over-limit _ _ c.if-board-gt-INPUT_LIMIT.true)
 
 pub returns-clause-put : goal.returns-clause-put
 returns-clause-put c =
-    put_same c.put_judged.ensures.put
-    (ap judge_lines c.judge.ensures.answer ∙ in-limit _ _ c.if-board-gt-INPUT_LIMIT.false)
+    let answer = rw (c.top.ensures, c.bot.ensures) at c.judge.ensures.answer in
+    put_same c.put_judged.ensures.put (ap judge_lines answer ∙ in-limit _ _ c.if-board-gt-INPUT_LIMIT.false)

@@ -3,6 +3,7 @@
 -- asks. Assumes nothing.
 use native.Mathlib.Omega.{arith}
 use Rattle.channel.specs.Channel.{rows}
+use Rattle.channel.proofs.BoundLaws.{err→checked, ok→same}
 use Rattle.router.proofs.HeldLaws.{refused-held, short-ring, short-board}
 use Rattle.router.proofs.Outcomes.{rows-held}
 use Rattle.router.proofs.route_by_value.Goals as goal
@@ -22,7 +23,7 @@ returns-then-board-lt-BOARD_TRAY c =
 
 pub returns-in-Err : goal.returns-in-Err
 returns-in-Err c =
-    rows-held _ _ _ c.if-ring-lt-RING_TRAY.false c.if-board-lt-BOARD_TRAY.false c.in-Err.ensures.answer c.refused-in-Err.ensures
+    rows-held _ _ _ c.if-ring-lt-RING_TRAY.false c.if-board-lt-BOARD_TRAY.false (err→checked _ c.in-Err.ensures) c.refused-in-Err.ensures
 
 pub returns-in-Ok : goal.returns-in-Ok
-returns-in-Ok c = c.route_checked.ensures
+returns-in-Ok c = rw (ok→same _ c.in-Ok.ensures) at c.route_checked.ensures

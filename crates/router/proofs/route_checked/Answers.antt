@@ -7,17 +7,17 @@ use Rattle.router.proofs.route_checked.Goals as goal
 
 pub draw_board-pieces-requires : goal.draw_board-pieces-requires
 draw_board-pieces-requires c =
-    let pre = c.requires in
-    let placed = (placed→ c.fill_nets-filled.ensures c.in-Placed.is).0 in
-    (placed-drawable _ pre.0 pre.2 placed, c.fill_nets-filled.ensures.spans)
+    let nets = c.fill_nets-filled.ensures in
+    let esc = rw c.rows.view_is at c.rows.invariant in
+    (placed-drawable _ esc c.requires.1 (placed→ nets c.in-Placed.is).0, nets.spans)
 
 pub returns-in-Stuck : goal.returns-in-Stuck
 returns-in-Stuck c =
-    let done = c.fill_nets-filled.ensures in
-    tangled-held _ _ _ c.requires.1 c.requires.2 c.requires.0 done c.in-Stuck.is c.refused.ensures
+    tangled-held _ _ _ c.requires.0 c.requires.1 (rw c.rows.view_is at c.rows.invariant) c.fill_nets-filled.ensures
+    c.in-Stuck.is c.refused.ensures
 
 pub returns-in-Placed : goal.returns-in-Placed
 returns-in-Placed c =
     let nets = c.fill_nets-filled.ensures in
-    routed-held _ _ _ c.requires.1 c.requires.2 c.requires.0 nets c.in-Placed.is
-    refl c.draw_board-pieces.ensures c.make_records-table.ensures refl
+    routed-held _ _ _ c.requires.0 c.requires.1 (rw c.rows.view_is at c.rows.invariant) nets c.in-Placed.is
+    refl c.draw_board-pieces.ensures c.make_records-count.ensures refl

@@ -1,13 +1,14 @@
 -- `cabjirt_blank` meets its contract: in both cases the number is that of what `blank` answers.
-use mathlib.Core.Path.{sym}
-use Rattle.refusal.specs.Refusals.{told}
+use Rattle.std.proofs.Common.{◌≡◌, rules, sym, ◌∙◌}
+use Rattle.refusal.specs.Refusals.{told_refusal, told}
+use Rattle.screen_api.specs.Numbers.{entry_number}
+use Rattle.screen_api.proofs.NumberLaws.{each-answer}
 use Rattle.screen_api.proofs.CodeLaws.{blank-entry, blank-held}
 use Rattle.screen_api.proofs.cabjirt_blank.Goals as goal
 
-pub returns-in-Ok : goal.returns-in-Ok
-returns-in-Ok c = blank-held _ (sym c.in-Ok.ensures)
-
-pub returns-in-Err : goal.returns-in-Err
+pub returns : goal.returns
 unfolding told
-returns-in-Err c =
-    blank-entry _ (rw (sym c.in-Err.ensures) c.refused.ensures)
+returns c =
+    each-answer _ c.map_or_else.ensures
+    (λ v is p. let same : c.map_or_else.result ≡ v = search rules in rw same (blank-held _ (sym c.blank.ensures ∙ is)))
+    (λ q is p. let same : c.map_or_else.result ≡ entry_number (told_refusal q) = search rules in blank-entry _ (rw (sym c.blank.ensures ∙ is) same))

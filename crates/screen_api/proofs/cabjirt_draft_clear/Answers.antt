@@ -1,7 +1,15 @@
 -- `cabjirt_draft_clear` meets its contract: the number is that of what `clear` answers, and the words are as it left
 -- them.
-use Rattle.screen_api.proofs.DraftLaws.{clear-entry}
+use Rattle.std.proofs.Common.{◌≡◌, rules, ◌∙◌}
+use Rattle.refusal.specs.Refusals.{told_refusal, told}
+use Rattle.screen_api.specs.Numbers.{entry_number}
+use Rattle.screen_api.proofs.NumberLaws.{each-answer}
+use Rattle.screen_api.proofs.DraftLaws.{clear-entry, done-number}
 use Rattle.screen_api.proofs.cabjirt_draft_clear.Goals as goal
 
 pub returns : goal.returns
-returns c = clear-entry c.changed.ensures c.clear.ensures
+unfolding told
+returns c =
+    each-answer _ c.map_or_else.ensures
+    (λ v is p. let same : c.map_or_else.result ≡ 0 = search rules in clear-entry (same ∙ done-number is) c.clear.ensures)
+    (λ q is p. let same : c.map_or_else.result ≡ entry_number (told_refusal q) = search rules in clear-entry (rw is same) c.clear.ensures)

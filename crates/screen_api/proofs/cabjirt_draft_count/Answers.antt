@@ -1,9 +1,14 @@
 -- `cabjirt_draft_count` meets its contract: the number is that of what `count` answers.
-use Rattle.screen_api.proofs.DraftLaws.{count-entry}
+use Rattle.std.proofs.Common.{◌≡◌, rules, ◌∙◌}
+use Rattle.refusal.specs.Refusals.{told_refusal, told}
+use Rattle.screen_api.specs.Numbers.{entry_number}
+use Rattle.screen_api.proofs.NumberLaws.{each-answer}
+use Rattle.screen_api.proofs.DraftLaws.{count-entry, count-number}
 use Rattle.screen_api.proofs.cabjirt_draft_count.Goals as goal
 
-pub counted-requires : goal.counted-requires
-counted-requires c = c.count.ensures.few
-
 pub returns : goal.returns
-returns c = count-entry c.counted.ensures c.count.ensures
+unfolding told
+returns c =
+    each-answer _ c.map_or_else.ensures
+    (λ v is p. let same : c.map_or_else.result ≡ v = search rules in count-entry (same ∙ count-number c.count.ensures.few is) c.count.ensures)
+    (λ q is p. let same : c.map_or_else.result ≡ entry_number (told_refusal q) = search rules in count-entry (rw is same) c.count.ensures)

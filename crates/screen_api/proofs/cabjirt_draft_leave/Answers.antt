@@ -1,8 +1,15 @@
 -- `cabjirt_draft_leave` meets its contract: the number is that of what `leave` answers, and the words are as it left
 -- them.
-use native.Mathlib.Omega.{arith}
-use Rattle.screen_api.proofs.DraftLaws.{leave-entry}
+use Rattle.std.proofs.Common.{◌≡◌, rules, ◌∙◌, arith}
+use Rattle.refusal.specs.Refusals.{told_refusal, told}
+use Rattle.screen_api.specs.Numbers.{entry_number}
+use Rattle.screen_api.proofs.NumberLaws.{each-answer}
+use Rattle.screen_api.proofs.DraftLaws.{leave-entry, done-number}
 use Rattle.screen_api.proofs.cabjirt_draft_leave.Goals as goal
 
 pub returns : goal.returns
-returns c = leave-entry c.changed.ensures (omega arith) c.leave.ensures
+unfolding told
+returns c =
+    each-answer _ c.map_or_else.ensures
+    (λ v is p. let same : c.map_or_else.result ≡ 0 = search rules in leave-entry (same ∙ done-number is) (omega arith) c.leave.ensures)
+    (λ q is p. let same : c.map_or_else.result ≡ entry_number (told_refusal q) = search rules in leave-entry (rw is same) (omega arith) c.leave.ensures)

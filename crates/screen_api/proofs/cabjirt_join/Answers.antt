@@ -1,15 +1,15 @@
 -- `cabjirt_join` meets its contract: in both cases the number is that of what `join` answers, and the rows are as
 -- `join` left them.
-use Rattle.refusal.specs.Refusals.{told}
+use Rattle.std.proofs.Common.{◌≡◌, rules}
+use Rattle.refusal.specs.Refusals.{told_refusal, told}
+use Rattle.screen_api.specs.Numbers.{entry_number}
+use Rattle.screen_api.proofs.NumberLaws.{each-answer}
 use Rattle.screen_api.proofs.CodeLaws.{join-entry, join-width}
 use Rattle.screen_api.proofs.cabjirt_join.Goals as goal
 
-pub returns-in-Ok : goal.returns-in-Ok
-returns-in-Ok c =
-    join-width c.join.ensures c.in-Ok.is
-
-pub returns-in-Err : goal.returns-in-Err
+pub returns : goal.returns
 unfolding told
-returns-in-Err c =
-    join-entry c.join.ensures
-    (rw c.in-Err.is c.refused.ensures)
+returns c =
+    each-answer _ c.map_or_else.ensures
+    (λ v is p. let same : c.map_or_else.result ≡ v = search rules in rw same (join-width c.join.ensures is))
+    (λ q is p. let same : c.map_or_else.result ≡ entry_number (told_refusal q) = search rules in join-entry c.join.ensures (rw is same))

@@ -5,5 +5,5 @@ use Rattle.text.specs.Lines.{field, Put}
 use Rattle.text.proofs.put_numbers.Given as goal
 
 abbrev pub invariant-loop-n : goal.invariant-loop-n
-invariant-loop-n l =
-    Put l.initial.out l.at (each field (take l.n-index l.numbers)) l.out l.next × (l.next ≤ l.at + 21 * l.n-index)
+invariant-loop-n g l =
+    Put l.initial.out l.at (each (λ n. field (g.N.Number.value n)) (take l.n-index l.numbers)) l.out l.next × (l.next ≤ l.at + 21 * l.n-index)

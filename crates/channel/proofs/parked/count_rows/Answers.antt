@@ -12,17 +12,17 @@ none-counted e n h = subst (λ (k : List ℕ). get_or k n 0 ≤ 512) (sym e) (ze
 pub count_pins-requires : goal.count_pins-requires
 unfolding zeros
 count_pins-requires c =
-    (top_within (rows c.args.top.now c.args.bot.now) c.requires.0, c.requires.0.narrow, none-counted c.requires.1)
+    (top_within (rows c.rows.inside.top.now c.rows.inside.bot.now) c.rows.invariant, c.rows.invariant.narrow, none-counted c.requires)
 
 pub count_pins-requires-2 : goal.count_pins-requires-2
 unfolding zeros
 count_pins-requires-2 c =
-    let esc = c.requires.0 in (
-      bot-within (rows c.args.top.now c.args.bot.now) esc,
+    let esc = c.rows.invariant in (
+      bot-within (rows c.rows.inside.top.now c.rows.inside.bot.now) esc,
       omega (arith, esc.narrow, esc.even),
       λ n h.
           subst (λ (k : List ℕ). get_or k n 0 ≤ 512)
-          (sym (c.count_pins.ensures ∙ ap (tally c.args.top.now) c.requires.1))
-          (let w = counts-within _ (top_within (rows c.args.top.now c.args.bot.now) esc) n h in
+          (sym (c.count_pins.ensures ∙ ap (tally c.rows.inside.top.now) c.requires))
+          (let w = counts-within _ (top_within (rows c.rows.inside.top.now c.rows.inside.bot.now) esc) n h in
           let t = esc.narrow in omega arith),
     )

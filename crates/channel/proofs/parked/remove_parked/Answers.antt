@@ -10,22 +10,21 @@ use Rattle.channel.proofs.parked.remove_parked.Goals as goal
 
 pub keep_nets-requires : goal.keep_nets-requires
 keep_nets-requires c =
-    (top_within (rows c.args.top.now c.args.bot.now) c.requires.0, c.requires.0.narrow, c.requires.1)
+    (top_within (rows c.rows.inside.top.now c.rows.inside.bot.now) c.rows.invariant, c.rows.invariant.narrow)
 
 pub keep_nets-requires-2 : goal.keep_nets-requires-2
 keep_nets-requires-2 c =
-    let p = c.requires in
-    (bot-within (rows c.args.top.now c.args.bot.now) p.0, omega (arith, p.0.narrow, p.0.even), p.2)
+    (bot-within (rows c.rows.inside.top.now c.rows.inside.bot.now) c.rows.invariant, omega arith)
 
 pub returns : goal.returns
 unfolding zeros
 returns c =
-    let ch = rows c.args.top.now c.args.bot.now in
-    record {
+    let ch = rows c.rows.inside.top.now c.rows.inside.bot.now in
+    rw (← c.rows.view_is) (record {
       on_top = c.keep_nets.ensures
           ∙ ap (λ (l : List ℕ). overlay l c.args.upper.now)
-          (ap (λ (k : List ℕ). nets_of_row k ch.top) c.count_rows.ensures ∙ tops-left ch c.requires.0);
+          (ap (λ (k : List ℕ). nets_of_row k ch.top) (rw (← c.rows.view_is) at c.count_rows.ensures) ∙ tops-left ch c.rows.invariant);
       on_bot = c.keep_nets-2.ensures
           ∙ ap (λ (l : List ℕ). overlay l c.args.lower.now)
-          (ap (λ (k : List ℕ). nets_of_row k ch.bot) c.count_rows.ensures ∙ bots-left ch c.requires.0);
-    }
+          (ap (λ (k : List ℕ). nets_of_row k ch.bot) (rw (← c.rows.view_is) at c.count_rows.ensures) ∙ bots-left ch c.rows.invariant);
+    })

@@ -10,19 +10,19 @@ use Rattle.channel.proofs.NoteLaws.{firsts-none, lasts-none, firsts-whole, lasts
 use Rattle.channel.proofs.spans.find_columns.Goals as goal
 
 pub loop-i-init : goal.loop-i-init
-loop-i-init c = (ap column_numbers c.requires.1 ∙ (columns-none ∙ firsts-none _), ap column_numbers c.requires.2 ∙ (columns-none ∙ lasts-none _))
+loop-i-init c = (ap column_numbers c.requires.0 ∙ (columns-none ∙ firsts-none _), ap column_numbers c.requires.1 ∙ (columns-none ∙ lasts-none _))
 
 pub note-requires : goal.note-requires
-note-requires c = top-low (rows c.args.top.now c.args.bot.now) c.loop-i.i c.requires.0.escapes
+note-requires c = top-low (rows c.nets.inside.top.now c.nets.inside.bot.now) c.loop-i.i c.nets.invariant.escapes
 
 pub note-requires-in-loop-i : goal.note-requires-in-loop-i
-note-requires-in-loop-i c = bot-low (rows c.args.top.now c.args.bot.now) c.loop-i.i c.requires.0.escapes
+note-requires-in-loop-i c = bot-low (rows c.nets.inside.top.now c.nets.inside.bot.now) c.loop-i.i c.nets.invariant.escapes
 
 pub loop-i-preserved : goal.loop-i-preserved
 loop-i-preserved c =
     let l = c.loop-i in
-    let ch = rows c.args.top.now c.args.bot.now in
-    let esc = c.requires.0.escapes in
+    let ch = rows c.nets.inside.top.now c.nets.inside.bot.now in
+    let esc = c.nets.invariant.escapes in
     let one = c.note.ensures in
     let two = c.note-in-loop-i.ensures in
     let top = sym (at_next ch.top l.i) in
@@ -36,8 +36,9 @@ loop-i-preserved c =
 pub returns : goal.returns
 returns c =
     let l = c.loop-i in
-    let ch = rows c.args.top.now c.args.bot.now in
-    let all : l.i ≡ width ch = omega arith in (
-      rw (column-set l.first 0 (column 0), l.invariant.0, all) (firsts-whole ch c.requires.0),
-      rw (column-set l.last 0 (column 0), l.invariant.1, all) (lasts-whole ch c.requires.0),
+    let ch = rows c.nets.inside.top.now c.nets.inside.bot.now in
+    let all : l.i ≡ width ch = omega arith in
+    rw (← c.nets.view_is) (
+      rw (column-set l.first 0 (column 0), l.invariant.0, all) (firsts-whole ch c.nets.invariant),
+      rw (column-set l.last 0 (column 0), l.invariant.1, all) (lasts-whole ch c.nets.invariant),
     )

@@ -1,11 +1,8 @@
 use native.Mathlib.Omega.{arith}
 use mathlib.Core.Path.{refl, ◌∙◌}
-use Rattle.lists.specs.Fronts.{front-none, front-next, front-whole}
+use Rattle.lists.specs.Fronts.{front-next, front-whole}
 use Rattle.classes.specs.FlatLaws.{flat_up, flat-root}
 use Rattle.classes.proofs.forest.flatten.Goals as goal
-
-pub loop-i-init : goal.loop-i-init
-loop-i-init c = front-none _ _
 
 -- the parent stands before its child, or is the child
 pub offset_bounds-forest-up : goal.offset_bounds-forest-up
@@ -28,9 +25,6 @@ loop-i-preserved c =
     let root = flat-root _ pre l.i _ l.invariant (omega arith) c.parent-up.result
     c.parent-up.ensures in
     front-next _ _ _ _ _ l.invariant (omega arith) (c.low.ensures ∙ root) refl
-
-pub shape_of-forest : goal.shape_of-forest
-shape_of-forest c = c.loop-i.invariant.size
 
 pub returns : goal.returns
 returns c = front-whole _ _ _ _ c.loop-i.invariant (omega arith)

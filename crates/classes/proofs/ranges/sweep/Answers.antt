@@ -1,9 +1,6 @@
 use native.Mathlib.Omega.{arith}
-use Rattle.classes.specs.SweepLaws.{swept_none, furthest-inside, swept-inside, swept-next, swept-whole}
+use Rattle.classes.specs.SweepLaws.{furthest-inside, swept-inside, swept-next}
 use Rattle.classes.proofs.ranges.sweep.Goals as goal
-
-pub loop-start-init : goal.loop-start-init
-loop-start-init c = swept_none c.requires.0
 
 pub pass-furthest-requires : goal.pass-furthest-requires
 pass-furthest-requires c =
@@ -18,6 +15,3 @@ pass-furthest-requires c =
 pub loop-start-preserved : goal.loop-start-preserved
 loop-start-preserved c =
     swept-next _ _ _ _ _ _ c.requires.0 c.loop-start.invariant _ _ _ (omega arith) c.pass-furthest.ensures
-
-pub returns : goal.returns
-returns c = swept-whole c.loop-start.invariant (omega arith)

@@ -4,6 +4,7 @@ use Rattle.lists.specs.Tests.{T→true, true→T}
 use Rattle.lists.specs.Updates.{any_next}
 use Rattle.lists.specs.Members.{member→any, in-up_to}
 use Rattle.draft.specs.Marks.{marked, is_here}
+use Rattle.draft.specs.CodeLaws.{mark-read}
 use Rattle.draft.proofs.columns.is_here.Goals as goal
 
 -- what the next column tells
@@ -24,15 +25,12 @@ pub loop-before-init : goal.loop-before-init
 unfolding any_of from
 loop-before-init c = refl
 
-pub is_marked-requires : goal.is_marked-requires
-is_marked-requires c = (c.requires.0, (c.requires.1, (omega arith, omega arith)))
-
-pub returns-then-is_marked : goal.returns-then-is_marked
-returns-then-is_marked c = found _ _ (c.loop-before.before + 1) (omega arith) (omega arith) (sym c.is_marked.ensures ∙ c.if-is_marked.true)
+pub returns-then-is_set : goal.returns-then-is_set
+returns-then-is_set c = found _ _ (c.loop-before.before + 1) (omega arith) (omega arith) (sym (c.is_set.ensures ∙ mark-read c.args.words.now c.args.net.0 (c.loop-before.before + 1) c.of.ensures) ∙ c.if-is_set.true)
 
 pub loop-before-preserved : goal.loop-before-preserved
 loop-before-preserved c =
-    none_yet _ _ c.loop-before.before c.loop-before.invariant (sym c.is_marked.ensures ∙ c.if-is_marked.false)
+    none_yet _ _ c.loop-before.before c.loop-before.invariant (sym (c.is_set.ensures ∙ mark-read c.args.words.now c.args.net.0 (c.loop-before.before + 1) c.of.ensures) ∙ c.if-is_set.false)
 
 pub returns : goal.returns
 returns c = none _ _ c.loop-before.before (omega arith) c.loop-before.invariant

@@ -50,8 +50,9 @@ bounds-head-n c =
 pub peel_above-queued-requires : goal.peel_above-queued-requires
 peel_above-queued-requires c =
     let h = here (goal.at.peel_above-queued-requires c).Joined-done-level c.requires.below c.requires.steps in
-    turn-peels _ _ _ _ _ _ _ _ _ _ h.0 _ _ _ c.requires.steps.stepped h.1
-    (let r = c.requires.room in omega arith)
+    rw (c.linked_from.ensures.0, c.linked_from.ensures.1)
+    (turn-peels _ _ _ _ _ _ _ _ _ _ h.0 _ _ _ c.requires.steps.stepped h.1
+    (let r = c.requires.room in omega arith))
 
 pub loop-done-smaller : goal.loop-done-smaller
 loop-done-smaller c =
@@ -64,7 +65,7 @@ loop-done-preserved c =
       peeled.auto.queue ∙ c.loop-done.invariant.1,
       λ below s. let h = here (goal.at.loop-done-preserved c).Joined-done-level below s in
           turn-next _ _ _ _ _ _ _ _ _ _ h.0 _ _ _ s.stepped h.1 (let r = c.requires.room in omega arith) _ _ _ h.0.few
-          peeled.ensures,
+          (rw (c.linked_from.ensures.0, c.linked_from.ensures.1) at peeled.ensures),
     )
 
 pub returns-then-queued-items : goal.returns-then-queued-items

@@ -6,12 +6,6 @@ use Rattle.judge.proofs.FaultStepsLaws.{marks-length, mark-at, owner_at}
 use Rattle.judge.proofs.FaultStepsLaws.{first-floating, none-floating}
 use Rattle.judge.proofs.faults.first_floating.Goals as goal
 
-pub loop-i-init : goal.loop-i-init
-loop-i-init c = λ k l b. absurd (omega arith)
-
-pub overflow_cast-root : goal.overflow_cast-root
-overflow_cast-root c = omega (arith, c.low-root.type_inv)
-
 pub bounds-scratch-root : goal.bounds-scratch-root
 bounds-scratch-root c =
     let i = c.loop-i.i in

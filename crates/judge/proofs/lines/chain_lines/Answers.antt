@@ -1,18 +1,11 @@
 use native.Mathlib.Omega.{arith}
-use Rattle.judge.proofs.FitLaws.{place-ready}
-use Rattle.classes.specs.ChainSteps.{chained-to-none, push-ready, chained-to-next, chained-to-whole}
+use Rattle.classes.specs.ChainSteps.{chained-to-none, push-ready, chained-to-next}
 use Rattle.judge.proofs.lines.chain_lines.Goals as goal
 
 pub loop-i-init : goal.loop-i-init
 loop-i-init g c =
     let pre = c.requires in
     chained-to-none _ _ _ pre.elements.forest pre.blank
-
-pub range_of-r-requires : goal.range_of-r-requires
-range_of-r-requires g c =
-    let e = c.requires.elements in
-    let k = e.count in
-    place-ready _ _ _ c.loop-i.i e.judgeable (omega arith)
 
 pub push-requires : goal.push-requires
 push-requires g c =
@@ -28,6 +21,3 @@ loop-i-preserved g c =
     let push = c.push in
     chained-to-next _ _ _ _ _ _ l.invariant (omega arith)
     (c.requires.lined l.i (omega arith)) _ c.range_of-r.ensures _ _ push.ensures.0 push.ensures.1
-
-pub returns : goal.returns
-returns g c = let z = c.loop-i.invariant.size in chained-to-whole c.loop-i.invariant (omega arith)

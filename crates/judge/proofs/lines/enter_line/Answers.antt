@@ -15,13 +15,6 @@ enter-requires g c =
     let some = c.loop-after-test.true in
     entering-ready c.requires c.loop-after.invariant (omega arith) c.range_of-r.ensures
 
-pub next-after-requires : goal.next-after-requires
-next-after-requires g c =
-    let some = c.loop-after-test.true in
-    let range = c.range_of-r in
-    (entering-next c.requires c.loop-after.invariant (omega arith) range.ensures
-    c.enter.ensures refl).inside
-
 pub loop-after-smaller : goal.loop-after-smaller
 loop-after-smaller g c =
     let some = c.loop-after-test.true in
@@ -35,12 +28,3 @@ loop-after-preserved g c =
     let range = c.range_of-r in
     (entering-next c.requires c.loop-after.invariant (omega arith) range.ensures
     c.enter.ensures c.next-after.ensures).entering
-
-pub shape_of-starts : goal.shape_of-starts
-shape_of-starts g c = c.loop-after.invariant.size
-
-pub shape_of-forest : goal.shape_of-forest
-shape_of-forest g c = c.loop-after.invariant.entered.grown.size
-
-pub returns : goal.returns
-returns g c = rw c.loop-after-test.false at c.loop-after.invariant.entered

@@ -1,18 +1,7 @@
 use native.Mathlib.Omega.{arith}
-use Rattle.judge.specs.JoinSteps.{chain-ready, joining-none, joining-whole, line-ready, sweep-ready}
+use Rattle.judge.specs.JoinSteps.{joining-whole, sweep-ready}
 use Rattle.judge.specs.JoinSteps.{joining-next}
 use Rattle.judge.proofs.lines.join_lines.Goals as goal
-
-pub chain_lines-requires : goal.chain_lines-requires
-chain_lines-requires g c = chain-ready c.requires
-
-pub loop-line-init : goal.loop-line-init
-loop-line-init g c =
-    joining-none c.requires
-    c.chain_lines.auto.heads c.chain_lines.ensures
-
-pub enter_line-requires : goal.enter_line-requires
-enter_line-requires g c = line-ready c.loop-line.invariant (omega arith)
 
 pub sweep-requires : goal.sweep-requires
 sweep-requires g c =

@@ -33,25 +33,25 @@ low_bot : (ch : Channel) (esc : Escapes ch) (i : ℕ) → get_or ch.bot i 0 < 51
 low_bot ch esc i = let h = bot-low ch i esc in omega arith
 
 pub loop-i-init : goal.loop-i-init
-loop-i-init c = (copied_none _ _ c.requires.3, copied_none _ _ c.requires.4)
+loop-i-init c = (copied_none _ _ c.requires.0, copied_none _ _ c.requires.1)
 
 pub copy_net-requires : goal.copy_net-requires
 copy_net-requires c =
-    let ch = rows c.args.top.now c.args.bot.now in
-    let esc = c.requires.0.escapes in
-    let n = narrow ch esc _ _ c.requires.1 c.requires.2 _ (low_top ch esc c.loop-i.i) in (top-low ch c.loop-i.i esc, n.0, n.1)
+    let ch = rows c.columns.inside.top.now c.columns.inside.bot.now in
+    let esc = c.columns.invariant.only.escapes in
+    let n = narrow ch esc _ _ c.columns.invariant.on_first c.columns.invariant.on_last _ (low_top ch esc c.loop-i.i) in (top-low ch c.loop-i.i esc, n.0, n.1)
 
 pub copy_net-requires-in-loop-i : goal.copy_net-requires-in-loop-i
 copy_net-requires-in-loop-i c =
-    let ch = rows c.args.top.now c.args.bot.now in
-    let esc = c.requires.0.escapes in
-    let n = narrow ch esc _ _ c.requires.1 c.requires.2 _ (low_bot ch esc c.loop-i.i) in (bot-low ch c.loop-i.i esc, n.0, n.1)
+    let ch = rows c.columns.inside.top.now c.columns.inside.bot.now in
+    let esc = c.columns.invariant.only.escapes in
+    let n = narrow ch esc _ _ c.columns.invariant.on_first c.columns.invariant.on_last _ (low_bot ch esc c.loop-i.i) in (bot-low ch c.loop-i.i esc, n.0, n.1)
 
 pub loop-i-preserved : goal.loop-i-preserved
 loop-i-preserved c =
-    let ch = rows c.args.top.now c.args.bot.now in
-    let p = c.requires in
-    let esc = p.0.escapes in
+    let ch = rows c.columns.inside.top.now c.columns.inside.bot.now in
+    let p = c.columns.invariant in
+    let esc = p.only.escapes in
     let l = c.loop-i in
     let one = c.copy_net.ensures in
     let two = c.copy_net-in-loop-i.ensures in
@@ -59,15 +59,16 @@ loop-i-preserved c =
     let b = low_bot ch esc l.i in
     let top = at_next ch.top l.i in
     let bot = at_next ch.bot l.i in (
-      rw (two.0, one.0, firsts_at ch esc _ _ p.1 p.2 _ t, firsts_at ch esc _ _ p.1 p.2 _ b)
+      rw (two.0, one.0, firsts_at ch esc _ _ p.on_first p.on_last _ t, firsts_at ch esc _ _ p.on_first p.on_last _ b)
           (copied_next (first_column ch) l.i l.invariant.0 _ _ t b top bot),
-      rw (two.1, one.1, lasts-at ch esc _ _ p.1 p.2 _ t, lasts-at ch esc _ _ p.1 p.2 _ b)
+      rw (two.1, one.1, lasts-at ch esc _ _ p.on_first p.on_last _ t, lasts-at ch esc _ _ p.on_first p.on_last _ b)
           (copied_next (last_column ch) l.i l.invariant.1 _ _ t b top bot),
     )
 
 pub returns : goal.returns
 returns c =
     let l = c.loop-i in
-    let ch = rows c.args.top.now c.args.bot.now in
+    let ch = rows c.columns.inside.top.now c.columns.inside.bot.now in
     let all : l.i ≡ width ch = omega arith in
-    copied-due ch c.requires.0.escapes.even (rw (← all) l.invariant.0) (rw (← all) l.invariant.1)
+    rw (← c.columns.view_is)
+    (copied-due ch c.columns.invariant.only.escapes.even (rw (← all) l.invariant.0) (rw (← all) l.invariant.1))

@@ -1,25 +1,32 @@
 -- What the fill of the nets as items leaves is the fill of the channel (`placed-done`), or the state in which the walk
 -- shows the ring (`stuck-done`).
 use native.Mathlib.Omega.{arith}
-use mathlib.Core.Path.{refl}
+use Rattle.std.proofs.Common.{refl, sym, length-take-le}
 use Rattle.grid.specs.Numbers.{tracks-long, tracks-none}
-use Rattle.leftedge.proofs.NetTurns.{placed-done, walk_begins, stuck-done}
+use Rattle.leftedge.proofs.NetTurns.{placed-done, left-fits, walk_begins, stuck-done}
 use Rattle.leftedge.proofs.nets.fill_cleared.Goals as goal
+
+pub slice_bounds-left-end : goal.slice_bounds-left-end
+slice_bounds-left-end c = left-fits c.nets.invariant c.fill_found-filled.ensures c.in-Stuck.is
+
+pub slice_bounds-show_ring-end : goal.slice_bounds-show_ring-end
+slice_bounds-show_ring-end c =
+    sym (length-take-le _ _ (left-fits c.nets.invariant c.fill_found-filled.ensures c.in-Stuck.is))
 
 pub show_ring-pairs-requires : goal.show_ring-pairs-requires
 show_ring-pairs-requires c =
-    (walk_begins c.requires.0 c.fill_found-filled.ensures c.in-Stuck.is, c.requires.4)
-
-pub fill_found-filled-requires : goal.fill_found-filled-requires
-fill_found-filled-requires c =
-    (c.requires.0, c.find_columns.ensures.0, c.find_columns.ensures.1, refl, c.requires.3)
+    (rw (← c.nets.view_is) (walk_begins c.nets.invariant c.fill_found-filled.ensures c.in-Stuck.is), c.requires.3)
 
 pub returns-in-Placed : goal.returns-in-Placed
 returns-in-Placed c =
-    placed-done c.fill_found-filled.ensures c.in-Placed.is (omega (arith, c.fill_found-filled.auto.tracks, tracks-long c.fill_found-filled.new.tracks)) refl refl
-    (record { first = c.find_columns.ensures.0; last = c.find_columns.ensures.1 }) refl
+    let found = rw (← c.nets.view_is) at c.find_columns.ensures in
+    rw (← c.nets.view_is) (placed-done c.fill_found-filled.ensures c.in-Placed.is
+    (omega (arith, c.fill_found-filled.auto.tracks, tracks-long c.fill_found-filled.new.tracks)) refl refl
+    (record { first = found.0; last = found.1 }) refl)
 
 pub returns-in-Stuck : goal.returns-in-Stuck
 returns-in-Stuck c =
-    stuck-done c.requires.0 c.fill_found-filled.ensures c.in-Stuck.is refl c.show_ring-pairs.ensures refl refl
-    (record { first = c.find_columns.ensures.0; last = c.find_columns.ensures.1 }) tracks-none refl
+    let found = rw (← c.nets.view_is) at c.find_columns.ensures in
+    rw (← c.nets.view_is) (stuck-done c.nets.invariant c.fill_found-filled.ensures c.in-Stuck.is refl
+    (rw (← c.nets.view_is) at c.show_ring-pairs.ensures) refl refl
+    (record { first = found.0; last = found.1 }) tracks-none refl)

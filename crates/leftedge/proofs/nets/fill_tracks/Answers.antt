@@ -4,4 +4,4 @@ use Rattle.grid.specs.Numbers.{tracks-none}
 use Rattle.leftedge.proofs.nets.fill_tracks.Goals as goal
 
 pub fill_cleared-requires : goal.fill_cleared-requires
-fill_cleared-requires c = (c.requires.0, refl, refl, tracks-none, c.requires.1)
+fill_cleared-requires c = (refl, refl, tracks-none, c.requires)

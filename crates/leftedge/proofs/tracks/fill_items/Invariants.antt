@@ -10,7 +10,8 @@ use Rattle.leftedge.proofs.tracks.fill_items.Given as goal
 abbrev pub invariant-loop-rest : goal.invariant-loop-rest
 invariant-loop-rest l =
     ((it : Items)
-    → FillBegins it l.first l.last l.nets l.upper l.head l.next l.fn.under l.fn.left l.count (track_numbers l.fn.tracks)
+    → FillBegins it l.tables.first.now l.tables.last.now l.tables.nets.now l.tables.upper.now
+    l.tables.head.now l.tables.next.now l.fn.under l.fn.left l.count (track_numbers l.fn.tracks)
     → Underway it l.under l.left (track_numbers l.tracks) l.rest l.looks l.done) × (length l.under ≡ length l.fn.under)
     × (length l.left ≡ length l.fn.left) × (length l.tracks ≡ length l.fn.tracks)
 

@@ -7,10 +7,10 @@ use Rattle.rings.proofs.fewest.nearer.Goals as goal
 pub returns-then-b-home : goal.returns-then-b-home
 returns-then-b-home c =
     let a = c.args in
-    rw c.wide-steps.ensures.0 (sym (nearer-home a.far.now a.home a.a a.b c.if-b-home.true))
+    rw c.from-steps.ensures (sym (nearer-home a.far.now a.home a.a a.b c.if-b-home.true))
 
 pub returns : goal.returns
 returns c =
     let a = c.args in
-    rw (c.wide-left.ensures.0, c.wide-steps.ensures.0)
+    rw (c.from-left.ensures, c.from-steps.ensures)
     (nearer-tested a.far.now a.home a.a a.b c.if-b-home.false)

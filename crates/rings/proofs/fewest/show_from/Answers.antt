@@ -7,10 +7,14 @@ use Rattle.rings.proofs.fewest.show_from.Goals as goal
 
 pub store_pairs-requires : goal.store_pairs-requires
 store_pairs-requires c =
-    let searched = c.search.ensures (below (rows c.args.top.now c.args.bot.now)) c.requires.stepped in
-    (home-confined c.requires searched c.home_columns-columns.ensures, c.requires.few, c.requires.room)
+    let p = rw (← c.nets.view_is) at c.requires in
+    let kept = rw (← c.nets.view_is) at c.home_columns-columns.ensures in
+    let searched = c.search.ensures (below (rows c.nets.inside.top.now c.nets.inside.bot.now)) p.stepped in
+    (home-confined p searched kept, p.few, p.room)
 
 pub returns : goal.returns
 returns c =
-    let searched = c.search.ensures (below (rows c.args.top.now c.args.bot.now)) c.requires.stepped in
-    rw (home-stored c.requires searched c.home_columns-columns.ensures) at c.store_pairs.ensures
+    let p = rw (← c.nets.view_is) at c.requires in
+    let kept = rw (← c.nets.view_is) at c.home_columns-columns.ensures in
+    let searched = c.search.ensures (below (rows c.nets.inside.top.now c.nets.inside.bot.now)) p.stepped in
+    rw (← c.nets.view_is) (rw (home-stored p searched kept) at c.store_pairs.ensures)
