@@ -16,7 +16,10 @@ use crate::search::search;
 use channel::{Nets, Rows};
 use grid::{COLUMN_SLOTS, NET_SLOTS, Net, WIDEST};
 
-// The fewest steps down from net n back to itself, if any lead back. `queue` is room for the nets found.
+// The fewest steps down from net n back to itself, if any lead back. `queue` is room for the nets found. Kept out of
+// line: laid among the tables of its caller, `far` may lie a multiple of 4,096 bytes from `head`, and each look then
+// waits for the store before, which makes the search of large rings half again as long.
+#[inline(never)]
 fn way_back(
     upper: &[u32],
     head: &[u16; NET_SLOTS],
