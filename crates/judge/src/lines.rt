@@ -46,7 +46,8 @@ fn enter_line<L: Lines>(
     }
 }
 
-// Joins the elements whose ranges overlap on a line, for each line that has a head.
+// Joins the elements whose ranges overlap on a line, for each line that has a head. Lent slices and no struct, as in
+// `classes`.
 fn join_lines<L: Lines>(case: &Case, heads: &mut [u32], starts: &mut [u32], forest: &mut [u32])
     requires { LinesReady case.now L.across heads.old starts.old
         forest.old }

@@ -26,7 +26,7 @@ fn copy_net(
 
 // Copies the columns of every net, by its number, into tables that hold 0 everywhere. A net is copied at each of its
 // pins: a small channel has fewer of these than there are numbers. So is 0, which stands where no pin is, and whose
-// columns are 0.
+// columns are 0. Two tables and none of pairs: `ColumnsDue`, which docs/requests/06.md names, is of two.
 pub fn copy_columns(columns: &Columns, begins: &mut [u16; NET_SLOTS], ends: &mut [u16; NET_SLOTS])
     requires { (begins.old ≡ replicate 512 0) × (ends.old ≡ replicate 512 0) }
     ensures { ColumnsDue columns.now begins.new ends.new }

@@ -34,6 +34,7 @@ fn net_order(
 }
 
 // Fills tracks with the nets at the front of `left`, which are in the order of the scan.
+// The count stays beside, as in `scan_track`.
 fn fill_nets(
     columns: &Columns,
     first: &[u16; NET_SLOTS],
@@ -64,7 +65,8 @@ fn fill_nets(
 }
 
 // Fills tracks with the nets with spans. `left` and `tracks` then have what `fill_nets` leaves.
-// Three functions end in `FillEnds`, since each hands on what the one below answers.
+// Three functions end in `FillEnds`, since each hands on what the one below answers. The count stays beside, as in
+// `scan_track`.
 fn fill_found(
     columns: &Columns,
     left: &mut [u32; NET_SLOTS],

@@ -23,7 +23,8 @@ fn note_above(
         far.new queue.new result }
 {
     let mut c = start as usize;
-    // a `while`: the next place is read from the links, and the iterator that `items` has over them is not exported
+    // a `while`: the next place is read from the links; by an iterator it would be no plainer, since `items` would
+    // export its own and the laws of it for this loop
     while c != 0 {
         let a = upper[c - 1] as usize;
         c = next[c] as usize;
