@@ -33,10 +33,11 @@ fn net_order(
     count
 }
 
-// Fills tracks with the nets at the front of `left`, which are in the order of the scan.
+// Fills tracks with the nets at the front of `left`, which are in the order of the scan. It is lent `Nets` and no
+// `Columns`, so that the copy in 16 bits is all that it has of columns, as docs/PROMISES.md says under Req 06.
 // The count stays beside, as in `scan_track`.
 fn fill_nets(
-    columns: &Columns,
+    nets: &Nets,
     first: &[u16; NET_SLOTS],
     last: &[u16; NET_SLOTS],
     next: &mut [u16; COLUMN_SLOTS],
@@ -44,10 +45,10 @@ fn fill_nets(
     count: usize,
     tracks: &mut [Track],
 ) -> ItemsFilled
-    requires { NetsBegin columns.now first.now last.now left.old count (track_numbers tracks.old) }
-    ensures { FillEnds (net_items columns.now) (fill columns.now) result left.new (track_numbers tracks.new) }
+    requires { NetsBegin nets.now first.now last.now left.old count (track_numbers tracks.old) }
+    ensures { FillEnds (net_items nets.now) (fill nets.now) result left.new (track_numbers tracks.new) }
 {
-    let (top, bot) = (columns.top, columns.bot);
+    let (top, bot) = (nets.top, nets.bot);
     let mut head = [0u16; NET_SLOTS];
     let mut under = [0u16; NET_SLOTS];
     // Each item is a net of its own: an empty table and no closure, since the laws of the fill (`Tabled`) are of tables.
@@ -75,15 +76,17 @@ fn fill_found(
     requires { track_numbers tracks.old ≡ replicate 512 0 }
     ensures { FillEnds (net_items columns.now) (fill columns.now) result left.new (track_numbers tracks.new) }
 {
-    // opened for the proof, which needs that the rows show nets only
-    let _ = &columns.top;
+    let nets = Nets {
+        top: columns.top,
+        bot: columns.bot,
+    };
     // links of the nets by first column, then of the steps by lower net
     let mut next = [0u16; COLUMN_SLOTS];
     let mut begins = [0u16; NET_SLOTS];
     let mut ends = [0u16; NET_SLOTS];
     let count = net_order(columns, &mut next, left);
     copy_columns(columns, &mut begins, &mut ends);
-    fill_nets(columns, &begins, &ends, &mut next, left, count, tracks)
+    fill_nets(&nets, &begins, &ends, &mut next, left, count, tracks)
 }
 
 // `fill_tracks` in tables that hold 0 everywhere.

@@ -7,13 +7,13 @@ pub fill_items-requires : goal.fill_items-requires
 fill_items-requires c =
     record {
       it = net_items _;
-      begins = nets-begin (rw (← c.columns.view_is) at c.requires) c.link_steps.ensures c.link_steps.auto.head
+      begins = nets-begin (rw (← c.nets.view_is) at c.requires) c.link_steps.ensures c.link_steps.auto.head
           c.link_steps.auto.under;
     }
 
 pub returns : goal.returns
 unfolding fill
 returns c =
-    let b = nets-begin (rw (← c.columns.view_is) at c.requires) c.link_steps.ensures c.link_steps.auto.head
+    let b = nets-begin (rw (← c.nets.view_is) at c.requires) c.link_steps.ensures c.link_steps.auto.head
     c.link_steps.auto.under in
-    rw (← c.columns.view_is) (c.fill_items.ensures (net_items _) b)
+    rw (← c.nets.view_is) (c.fill_items.ensures (net_items _) b)
