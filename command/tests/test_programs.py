@@ -7,6 +7,8 @@ from command.tests.workshop import A, LISTED, PROGRAMS, ROOT, Done, Workshop
 ON_STANDARD_INPUT = ("listing", "board_writer", "ring_finder")
 ON_FILES = {"board_judge": ("pins", "board"), "panel_joiner": ("first", "second")}
 EMPTY = b"REFUSED 2 0\n"
+HANDING_OUT = {b"malloc", b"calloc", b"realloc", b"reallocarray", b"posix_memalign", b"aligned_alloc", b"memalign",
+               b"valloc", b"strdup", b"mmap", b"mmap64", b"brk", b"sbrk"}
 
 
 class Ends(Workshop):
@@ -62,6 +64,16 @@ class Ends(Workshop):
                 self.failed(self.run_program(name, stdout=full))
             with self.subTest(name, stdout="closed"):
                 self.failed(self.run_program(name, stdout=None, preexec_fn=lambda: os.close(1)))
+
+    def test_none_asks_for_memory(self):
+        """So none can run out of it, nor can the gate's program: they call nothing of the C library that hands it out."""
+        gates = ROOT / "crates" / "cases" / "out" / "cases"
+        self.assertTrue(gates.is_file(), f"{gates} is missing: the gate, rt ci, leaves it there")
+        for program in (*(ROOT / "target" / "bin" / name for name in PROGRAMS), gates):
+            with self.subTest(program.name):
+                names = set(program.read_bytes().split(b"\0"))
+                self.assertIn(b"memcpy", names)
+                self.assertFalse(names & HANDING_OUT)
 
     def test_a_reader_that_is_gone(self):
         for name in PROGRAMS:

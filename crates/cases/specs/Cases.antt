@@ -1,5 +1,5 @@
 -- The numbers in a case's bytes, and when its bytes make a question.
-use Rattle.std.specs.Prelude.{ℕ, ◌+◌, ◌-◌, ◌*◌, ◌/◌, List, map, Bool, cond, ◌&&◌, length, get_or, take, drop, ltb, leb}
+use Rattle.std.specs.Prelude.{ℕ, ◌+◌, ◌-◌, ◌*◌, ◌/◌, List, map, Bool, cond, ◌&&◌, length, get_or, take, drop, ltb, leb, min}
 use Rattle.std.specs.List.{range_with_len}
 use Rattle.lists.specs.Lists.{from, all_of}
 
@@ -18,6 +18,13 @@ numbers_at bytes at count = map (λ i. number_at bytes (at + 2 * i)) (range_with
 -- the most numbers of a row in a case
 abbrev pub row_room : ℕ
 row_room = 1024
+
+-- how many numbers of TOP, and then of BOT, are there and have room, in rows that may lack bytes or be longer
+abbrev pub top_fitting : List ℕ → ℕ
+top_fitting bytes = min (min (number_at bytes 0) (length bytes / 2 - 1)) row_room
+
+abbrev pub bot_fitting : List ℕ → ℕ
+bot_fitting bytes = min (length bytes / 2 - 1 - top_fitting bytes) row_room
 
 -- two rows, of which TOP has a numbers and BOT b
 abbrev pub rows_fit : ℕ → ℕ → ℕ → ℕ → Bool

@@ -1,10 +1,11 @@
 -- When the bytes of a case make its question, and what an answer tells of it.
-use Rattle.std.specs.Prelude.{ℕ, ◌≡◌, ◌<◌, ◌≤◌, ◌-◌, ◌+◌, ◌*◌, ◌/◌, List, Bool, true, false, length, eqb, leb, slice_index, Result, Ok, Err, MatchResult, ⊤}
+use Rattle.std.specs.Prelude.{ℕ, ◌≡◌, ◌<◌, ◌≤◌, ◌-◌, ◌+◌, ◌*◌, ◌/◌, List, Bool, true, false, length, take, eqb, leb, slice_index, Result, Ok, Err, MatchResult, ⊤}
 use Rattle.cases.specs.Cases.{rows_whole, beside_whole, draft_whole, number_at, numbers_at}
 use Rattle.cases.specs.declared.question.Question.{Question}
 use Rattle.cases.specs.declared.question.Question.TheVariants.{Open, Piece, Blank, Read, Check, Bounds, Fill, Judge, Looks, Own, Fewest, Join, Draft}
 use Rattle.cases.specs.declared.question.Unanswered.{Unanswered}
 use Rattle.cases.specs.declared.question.Unanswered.TheVariants.{Cut, Failed}
+use Rattle.cases.specs.declared.row.Row.{Row}
 use Rattle.cases.specs.declared.rows.Rows.{Rows}
 use Rattle.cases.specs.declared.drafts.Call.{Call}
 
@@ -54,9 +55,13 @@ is_whole Fewest bytes = rows_whole bytes
 is_whole Join bytes = beside_whole bytes
 is_whole Draft bytes = draft_whole bytes
 
+-- the numbers of a row
+abbrev pub row_of : Row → List ℕ
+row_of row = take row.count row.numbers
+
 -- the rows in bytes, of which TOP has a numbers and BOT b
 abbrev pub HasRows : List ℕ → ℕ → ℕ → Rows → Type 0
-HasRows bytes a b rows = (rows.top.items ≡ numbers_at bytes 2 a) × (rows.bot.items ≡ numbers_at bytes (2 + 2 * a) b)
+HasRows bytes a b rows = (row_of rows.top ≡ numbers_at bytes 2 a) × (row_of rows.bot ≡ numbers_at bytes (2 + 2 * a) b)
 
 -- the rows in bytes, or a cut case where they are not there or are too long
 abbrev pub ReadsRows : List ℕ → Result Rows Unanswered → Type 0

@@ -62,8 +62,8 @@ pub fn answer_blank(rt: &impl Print, bytes: &[u8]) -> Result<(), Unanswered>
 
 // TOP is a customer's own table, asked for each of the tracks in BOT.
 pub fn put_own(rt: &impl Print, rows: &Rows) -> io::Result<()> {
-    for &tracks in rows.bot.iter() {
-        output::put_answer(rt, "OWN", blanks::own_blank(&rows.top, tracks))?;
+    for &tracks in rows.bot.numbers() {
+        output::put_answer(rt, "OWN", blanks::own_blank(rows.top.numbers(), tracks))?;
     }
     Ok(())
 }

@@ -11,11 +11,15 @@ use router::Routing;
 use std::io;
 
 pub fn put_check(rt: &impl Print, rows: &Rows) -> io::Result<()> {
-    output::put_done(rt, "CHECK", channel::check(&rows.top, &rows.bot))
+    output::put_done(
+        rt,
+        "CHECK",
+        channel::check(rows.top.numbers(), rows.bot.numbers()),
+    )
 }
 
 pub fn put_bounds(rt: &impl Print, rows: &Rows) -> io::Result<()> {
-    match channel::bounds(&rows.top, &rows.bot) {
+    match channel::bounds(rows.top.numbers(), rows.bot.numbers()) {
         Ok(LowerBounds { density, chain }) => println!(rt; "BOUNDS 0 {density} {chain}"),
         Err(refusal) => output::put_refusal(rt, "BOUNDS", refusal),
     }
@@ -48,7 +52,12 @@ fn put_tracks(rt: &impl Print, routing: &Routing) -> io::Result<()> {
 pub fn put_fill(rt: &impl Print, rows: &Rows) -> io::Result<()> {
     let mut ring = [MARK; RING_TRAY];
     let mut board = [0u8; BOARD_TRAY];
-    let routing = router::route_rows(&rows.top, &rows.bot, &mut ring, &mut board);
+    let routing = router::route_rows(
+        rows.top.numbers(),
+        rows.bot.numbers(),
+        &mut ring,
+        &mut board,
+    );
     output::put_answer(rt, "FILL", routing.answer.map(|drawn| drawn.tracks))?;
     match routing.answer {
         Ok(_) => {
@@ -62,14 +71,22 @@ pub fn put_fill(rt: &impl Print, rows: &Rows) -> io::Result<()> {
 }
 
 pub fn put_looks(rt: &impl Print, rows: &Rows) -> io::Result<()> {
-    output::put_answer(rt, "LOOKS", router::looks(&rows.top, &rows.bot))?;
-    output::put_answer(rt, "CEILING", router::ceiling(&rows.top, &rows.bot))
+    output::put_answer(
+        rt,
+        "LOOKS",
+        router::looks(rows.top.numbers(), rows.bot.numbers()),
+    )?;
+    output::put_answer(
+        rt,
+        "CEILING",
+        router::ceiling(rows.top.numbers(), rows.bot.numbers()),
+    )
 }
 
 // The pairs of the ring with the fewest nets; the ring buffer holds 7777 everywhere before.
 pub fn put_fewest(rt: &impl Print, rows: &Rows) -> io::Result<()> {
     let mut ring = [MARK; RING_TRAY];
-    match rings::fewest_ring(&rows.top, &rows.bot, &mut ring) {
+    match rings::fewest_ring(rows.top.numbers(), rows.bot.numbers(), &mut ring) {
         Ok(Some(pairs)) => {
             println!(rt; "FEWEST 0 {pairs}")?;
             return put_ring(rt, &ring, pairs as usize);
@@ -82,7 +99,7 @@ pub fn put_fewest(rt: &impl Print, rows: &Rows) -> io::Result<()> {
 
 pub fn put_judged(rt: &impl Print, rows: &Rows, board: &[u8]) -> io::Result<()> {
     let mut scratch = [0u32; SCRATCH_TRAY];
-    match judge::judge(&rows.top, &rows.bot, board, &mut scratch) {
+    match judge::judge(rows.top.numbers(), rows.bot.numbers(), board, &mut scratch) {
         JudgeAnswer::Good(tracks) => println!(rt; "JUDGE 0 {tracks}"),
         JudgeAnswer::Faulty(fault) => {
             println!(rt;

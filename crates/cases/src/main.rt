@@ -12,23 +12,18 @@ mod drafts;
 mod output;
 mod panels;
 mod question;
+mod row;
 mod rows;
 mod texts;
 
 use question::{Question, Unanswered};
-use std::alloc::Global;
 use std::io::{self, Read};
 
 // The most bytes of a case.
 const CASE_ROOM: usize = 65536;
 
 // Asks a question and writes the lines of its answer.
-fn answer(
-    rt: &impl Print,
-    alloc: Global,
-    question: Question,
-    bytes: &[u8],
-) -> Result<(), Unanswered>
+fn answer(rt: &impl Print, question: Question, bytes: &[u8]) -> Result<(), Unanswered>
     ensures { Tells result (is_whole question bytes.now) }
 {
     match question {
@@ -42,21 +37,19 @@ fn answer(
             texts::answer_read(rt, bytes)?;
             Ok(())
         }
-        Question::Check => rows::ask(alloc, bytes, |rows| channels::put_check(rt, rows)),
-        Question::Bounds => rows::ask(alloc, bytes, |rows| channels::put_bounds(rt, rows)),
-        Question::Fill => rows::ask(alloc, bytes, |rows| channels::put_fill(rt, rows)),
+        Question::Check => rows::ask(bytes, |rows| channels::put_check(rt, rows)),
+        Question::Bounds => rows::ask(bytes, |rows| channels::put_bounds(rt, rows)),
+        Question::Fill => rows::ask(bytes, |rows| channels::put_fill(rt, rows)),
         Question::Judge => rows::ask_beside(
-            alloc,
             bytes,
             |rows, board| channels::put_judged(rt, rows, board),
         ),
-        Question::Looks => rows::ask(alloc, bytes, |rows| channels::put_looks(rt, rows)),
-        Question::Own => rows::ask(alloc, bytes, |rows| boards::put_own(rt, rows)),
-        Question::Fewest => rows::ask(alloc, bytes, |rows| channels::put_fewest(rt, rows)),
+        Question::Looks => rows::ask(bytes, |rows| channels::put_looks(rt, rows)),
+        Question::Own => rows::ask(bytes, |rows| boards::put_own(rt, rows)),
+        Question::Fewest => rows::ask(bytes, |rows| channels::put_fewest(rt, rows)),
         Question::Join => rows::ask_beside(
-            alloc,
             bytes,
-            |rows, second| panels::put_joined(rt, alloc, rows, second),
+            |rows, second| panels::put_joined(rt, rows, second),
         ),
         Question::Draft => drafts::answer_draft(rt, bytes),
     }
@@ -82,19 +75,19 @@ fn next_case<'a>(
 
 // Answers one case after the other. A proved loop has to end, so this one counts its turns, up to a number that no run
 // reaches.
-fn answer_all(rt: &impl Print, alloc: Global, input: &mut impl Read) -> Result<(), Unanswered> {
+fn answer_all(rt: &impl Print, input: &mut impl Read) -> Result<(), Unanswered> {
     let mut room = [0u8; CASE_ROOM];
     for _ in 0..u64::MAX {
         let Some((kind, bytes)) = next_case(input, &mut room)? else {
             break;
         };
-        answer(rt, alloc, Question::try_from(kind)?, bytes)?;
+        answer(rt, Question::try_from(kind)?, bytes)?;
     }
     Ok(())
 }
 
 fn main(rt: HostRuntime) -> io::Result<()> {
-    match answer_all(&rt, rt.alloc(), &mut rt.stdin()) {
+    match answer_all(&rt, &mut rt.stdin()) {
         Ok(()) => Ok(()),
         Err(Unanswered::Cut) => println!(rt; "CUT"),
         Err(Unanswered::Failed(error)) => Err(error),

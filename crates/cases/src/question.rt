@@ -3,7 +3,6 @@ ghost use Rattle.std.specs.Prelude.{◌≡◌, Bool};
 ghost use Rattle.cases.specs.declared.question.Unanswered.TheVariants.{Failed};
 ghost use Rattle.cases.specs.Questions.{Asks, CutUnless};
 
-use std::alloc::AllocError;
 use std::io;
 
 // A kind of question.
@@ -24,8 +23,7 @@ pub enum Question {
     Draft,
 }
 
-// Why a case has no answer: it is cut, that is it lacks bytes or is of no kind; or a read or write failed, or memory
-// ran out.
+// Why a case has no answer: it is cut, that is it lacks bytes or is of no kind; or a read or write failed.
 #[derive(Debug, Drop)]
 pub enum Unanswered {
     Cut,
@@ -37,14 +35,6 @@ impl From<io::Error> for Unanswered {
 
     fn from(error: io::Error) -> Unanswered {
         Unanswered::Failed(error)
-    }
-}
-
-impl From<AllocError> for Unanswered {
-    ghost from_gives = { λ _ r. (whole : Bool) → CutUnless whole r };
-
-    fn from(error: AllocError) -> Unanswered {
-        Unanswered::Failed(io::Error::from(error))
     }
 }
 

@@ -1,15 +1,12 @@
 // Two rows in bytes: the length of TOP in two bytes, then all numbers, two bytes each.
-ghost use Rattle.std.specs.Prelude.{◌≡◌, ◌+◌, ◌-◌, ◌*◌, ◌/◌, ◌≤◌, ◌<◌, IfOk, MatchResult, length, drop};
-ghost use Rattle.cases.specs.Cases.{number_at, numbers_at, rows_whole, beside_whole};
+ghost use Rattle.std.specs.Prelude.{◌≡◌, ◌+◌, ◌-◌, ◌*◌, ◌/◌, ◌≤◌, ◌<◌, MatchResult, length, drop};
+ghost use Rattle.cases.specs.Cases.{number_at, rows_whole, beside_whole, top_fitting, bot_fitting};
 ghost use Rattle.cases.specs.Questions.{Tells, ReadsRows, HasRows};
 ghost use Rattle.cases.specs.declared.question.Unanswered.TheVariants.{Cut};
 
 use crate::question::Unanswered;
-use std::alloc::{AllocError, Global};
+use crate::row::{ROW_ROOM, Row};
 use std::io;
-
-// The most numbers of a row in a case.
-const ROW_ROOM: usize = 1024;
 
 // The number in the two bytes at byte `at`, most significant first; 0 where they are not there.
 // 0 and no None: bytes that may lack it are read too, and so the definition `number_at`.
@@ -34,35 +31,26 @@ pub fn front(bytes: &[u8]) -> Result<(u16, &[u8]), Unanswered>
     Ok((u16::from_be_bytes(number), behind))
 }
 
-// So many numbers from byte `at` on.
-fn numbers_at(alloc: Global, bytes: &[u8], at: usize, count: usize) -> Result<Vec<u32>, AllocError>
-    requires { (at ≤ 65536) × (count ≤ 1024) }
-    ensures { IfOk result (λ row. row.items ≡ numbers_at bytes.now at count) }
-{
-    (0..count)
-        .map(|i| number_at(bytes, at + 2 * i) as u32)
-        .collect(alloc)
-}
-
 // TOP and BOT of a channel.
 #[derive(Drop)]
 pub struct Rows {
-    pub top: Vec<u32>,
-    pub bot: Vec<u32>,
+    pub top: Row,
+    pub bot: Row,
 }
 
 // The rows in `bytes`, of which TOP has a numbers and BOT b.
-fn rows_of(alloc: Global, bytes: &[u8], a: usize, b: usize) -> Result<Rows, AllocError>
+fn rows_of(bytes: &[u8], a: usize, b: usize) -> Rows
     requires { (a ≤ 1024) × (b ≤ 1024) }
-    ensures { IfOk result (HasRows bytes.now a b) }
+    ensures { HasRows bytes.now a b result }
 {
-    let top = numbers_at(alloc, bytes, 2, a)?;
-    let bot = numbers_at(alloc, bytes, 2 + 2 * a, b)?;
-    Ok(Rows { top, bot })
+    Rows {
+        top: Row::read(bytes, 2, a),
+        bot: Row::read(bytes, 2 + 2 * a, b),
+    }
 }
 
 // Reads two rows of at most 1,024 numbers each; those that lack bytes or are longer are cut.
-pub fn read_rows(alloc: Global, bytes: &[u8]) -> Result<Rows, Unanswered>
+pub fn read_rows(bytes: &[u8]) -> Result<Rows, Unanswered>
     ensures { ReadsRows bytes.now result }
 {
     let (first, numbers) = front(bytes)?;
@@ -71,27 +59,25 @@ pub fn read_rows(alloc: Global, bytes: &[u8]) -> Result<Rows, Unanswered>
     if all < a || ROW_ROOM < a || ROW_ROOM < all - a {
         return Err(Unanswered::Cut);
     }
-    Ok(rows_of(alloc, bytes, a, all - a)?)
+    Ok(rows_of(bytes, a, all - a))
 }
 
 // Reads two rows as `read_rows` does, but of rows that lack bytes, or are longer than there is room for, just the
 // numbers that are there and have room.
-pub fn read_fitting(alloc: Global, bytes: &[u8]) -> Result<Rows, AllocError> {
+pub fn read_fitting(bytes: &[u8]) -> Rows
+    ensures { HasRows bytes.now (top_fitting bytes.now) (bot_fitting bytes.now) result }
+{
     let all = (bytes.len() / 2).saturating_sub(1);
     let a = (number_at(bytes, 0) as usize).min(all).min(ROW_ROOM);
-    rows_of(alloc, bytes, a, (all - a).min(ROW_ROOM))
+    rows_of(bytes, a, (all - a).min(ROW_ROOM))
 }
 
 // Asks a question about the rows in `bytes`.
-pub fn ask<F: FnOnce(&Rows) -> io::Result<()>>(
-    alloc: Global,
-    bytes: &[u8],
-    put: F,
-) -> Result<(), Unanswered>
+pub fn ask<F: FnOnce(&Rows) -> io::Result<()>>(bytes: &[u8], put: F) -> Result<(), Unanswered>
     requires { F.IsAlwaysCallable put }
     ensures { Tells result (rows_whole bytes.now) }
 {
-    let rows = read_rows(alloc, bytes)?;
+    let rows = read_rows(bytes)?;
     put(&rows)?;
     Ok(())
 }
@@ -99,7 +85,6 @@ pub fn ask<F: FnOnce(&Rows) -> io::Result<()>>(
 // Asks a question about rows and what goes with them: the length of the rows' bytes stands in front in two bytes, and
 // behind the rows stands the other.
 pub fn ask_beside<F: FnOnce(&Rows, &[u8]) -> io::Result<()>>(
-    alloc: Global,
     bytes: &[u8],
     put: F,
 ) -> Result<(), Unanswered>
@@ -110,27 +95,25 @@ pub fn ask_beside<F: FnOnce(&Rows, &[u8]) -> io::Result<()>>(
     let Some((rows, beside)) = behind.split_at_checked(size as usize) else {
         return Err(Unanswered::Cut);
     };
-    ask(alloc, rows, |rows| put(rows, beside))
+    ask(rows, |rows| put(rows, beside))
 }
 
 #[cfg(test)]
 mod tests {
     use super::*;
 
-    // Both reads succeed where memory is left.
     #[test]
     fn rows_are_read(rt: HostRuntime) -> Result<(), Unanswered> {
-        let rows = read_rows(rt.alloc(), b"\0\x01\0\x05\0\x06\0\x07")?;
-        assert_eq!(rt; rows.top.as_slice(), [5].as_slice());
-        assert_eq!(rt; rows.bot.as_slice(), [6, 7].as_slice());
+        let rows = read_rows(b"\0\x01\0\x05\0\x06\0\x07")?;
+        assert_eq!(rt; rows.top.numbers(), [5].as_slice());
+        assert_eq!(rt; rows.bot.numbers(), [6, 7].as_slice());
         Ok(())
     }
 
     #[test]
-    fn fitting_rows_are_read(rt: HostRuntime) -> Result<(), AllocError> {
-        let rows = read_fitting(rt.alloc(), b"\0\x02\0\x05")?;
-        assert_eq!(rt; rows.top.as_slice(), [5].as_slice());
-        assert_eq!(rt; rows.bot.as_slice(), [].as_slice());
-        Ok(())
+    fn fitting_rows_are_read(rt: HostRuntime) {
+        let rows = read_fitting(b"\0\x02\0\x05");
+        assert_eq!(rt; rows.top.numbers(), [5].as_slice());
+        assert_eq!(rt; rows.bot.numbers(), [].as_slice());
     }
 }

@@ -28,5 +28,5 @@ returns c =
     let behind = ap length c.in_ok-first.ensures.2 ∙ length-drop 2 c.args.bytes.now in (
       rows-enough _ c.in_ok-first.ensures.0 e (rw behind at c.if-all-a.false) c.if-a-gt-ROW_ROOM.false
           (rw behind at c.if-all-a-gt-ROW_ROOM.false),
-      rw (behind, e) at c.in_ok-rows_of.ensures,
+      rw (behind, e) at c.rows_of.ensures,
     )
