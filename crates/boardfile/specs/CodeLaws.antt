@@ -109,7 +109,7 @@ module _ (bs : List ℕ) (h : Header) (head : h ≡ header_of (word_at bs 0)) wh
         )
 
     module _ (low : 1 ≤ h.width) (high : h.width ≤ 512) (unset : h.spare ≡ 1 → ⊥) where
-      abbrev bad : Option ℕ
+      abbrev pub bad : Option ℕ
       bad = find (wrong_piece bs h.width h.tracks) (up_to h.count)
 
       pub open-piece : {p : ℕ} → Some p ≡ bad → open_answer bs ≡ Err (BadField p)
